@@ -1,0 +1,36 @@
+-- How the code's steps make up the rules of the calls.
+use Prim.Native.Nat.{ℕ, _+_, _-_, _≤_, _<_}
+use mathlib.Core.Path.{_≡_, sym, ap, _∙_}
+use mathlib.Core.List.{List}
+use lib.ListN.{length, getD, set}
+use lib.Seq.{getD-set-same, set-comm}
+use native.Mathlib.Omega.{arith}
+use Rattle.pool.specs.declared.ListPool.{ListPool}
+use Rattle.pool.specs.declared.Answer.{Answer}
+use Rattle.pool.specs.Numbers.{handleAt}
+use Rattle.pool.specs.Blocks.{Taken, moved}
+use Rattle.pool.specs.Rules.{Outcome, outcome, answer, lenOf, seated, pushDone}
+use Rattle.pool.specs.Steps.{Leaves}
+
+-- a list that was seated in a block that holds it
+pub seated-leaves : (p value : ℕ) (m : Taken) (hs : List ℕ) (slot n : ℕ) {r : Answer} {after tabled : List ℕ} → slot < length hs → m .block + (n + 1) ≤ p
+    → r ≡ answer 0 value (m .state) → after ≡ set (m .words) (m .block) n → tabled ≡ set hs slot (m .block + 1)
+    → Leaves p (seated value m hs slot n) slot n r after tabled
+seated-leaves p value m hs slot n inside ends e f g =
+    record {
+      is = rw (e, f, g);
+      ends = rw (g, getD-set-same hs slot (m .block + 1) 0 inside) (omega arith);
+    }
+
+-- push writes the element after the resize, in the rule before the length
+pub push-seated : (st : ListPool) (ws hs : List ℕ) (slot x : ℕ) (r : Answer) (after tabled : List ℕ) → slot < length hs
+    → outcome r after tabled ≡ seated (lenOf ws hs slot) (moved st ws (handleAt hs slot) (lenOf ws hs slot) (lenOf ws hs slot + 1)) hs slot (lenOf ws hs slot + 1)
+    → outcome r (set after (handleAt tabled slot + lenOf ws hs slot) x) tabled ≡ pushDone st ws hs slot x
+unfolding pushDone
+push-seated st ws hs slot x r after tabled inside e =
+    let n = lenOf ws hs slot in
+    let m = moved st ws (handleAt hs slot) n (n + 1) in
+    let at : handleAt (set hs slot (m .block + 1)) slot ≡ m .block + 1 = getD-set-same hs slot (m .block + 1) 0 inside in
+    let place : m .block + 1 + n ≡ m .block + (n + 1) = omega arith in
+    ap (λ (o : Outcome). outcome (o .answer) (set (o .words) (handleAt (o .handles) slot + n) x) (o .handles)) e
+    ∙ rw (at, place) (ap (λ (w : List ℕ). outcome (answer 0 n (m .state)) w (set hs slot (m .block + 1))) (set-comm (m .words) (m .block) (m .block + (n + 1)) (n + 1) x (omega arith)))

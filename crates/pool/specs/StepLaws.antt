@@ -1,0 +1,46 @@
+-- What the callers of the inner steps use of what they ask and give.
+use Prim.Native.Nat.{ℕ, _+_, _-_, _≤_, _<_, min}
+use mathlib.Core.Path.{_≡_, ap}
+use mathlib.Core.Logic.{⊎-elim}
+use mathlib.Core.Bool.{true, false}
+use native.Mathlib.Nat.{eq-zero-or-pos}
+use native.Mathlib.Omega.{arith}
+use Rattle.sizes.specs.Class.{longest, classCount, classOf, sizeOf}
+use Rattle.sizes.specs.Laws.{class-fits, class-below, size-least}
+use Rattle.pool.specs.declared.ListPool.{ListPool}
+use Rattle.pool.specs.Numbers.{poolLimit, headOf, needsBlock}
+use Rattle.pool.specs.Steps.{ListAt, CanAlloc, CanFree, CanRealloc, CanResize}
+use Rattle.pool.specs.Facts.{stays}
+
+-- the head of a class whose block can be taken lies in the pool
+pub head-below : (st : ListPool) (p c : ℕ) → CanAlloc st p c → headOf st c < p
+head-below st p c can =
+    ⊎-elim
+    (λ z. omega (arith, can .fresh z, size-least c))
+    (λ h. omega (arith, can .recycled h, size-least c))
+    (eq-zero-or-pos (headOf st c))
+
+-- a list that is not empty can give its block back
+pub can-free : (p h n : ℕ) → ListAt p h n → 0 < n → p ≤ poolLimit → CanFree p (h - 1) (classOf n)
+can-free p h n l some limit = record { class = class-below n (l .short); limit = limit; whole = l .block some }
+
+module _ (st : ListPool) (p h a b : ℕ) (can : CanResize st p h a b) where
+  -- where another block is needed for a list that is not empty, it can be exchanged, with the length and what both have
+  pub can-realloc : 0 < a → needsBlock a b ≡ true → CanRealloc st p (h - 1) (classOf a) (classOf b) (min a b + 1)
+  can-realloc some m =
+      record {
+        new = can .room m;
+        old = can-free p h a (can .list) some (can .limit);
+        leaves = omega (arith, class-fits a (omega (arith, can .list .short)));
+        fits = omega (arith, class-fits b (omega (arith, can .most)));
+      }
+
+  -- a block of b's class holds the length and b elements
+  pub block-fits : b + 1 ≤ sizeOf (classOf b)
+  block-fits = class-fits b (omega (arith, can .most))
+
+  -- where none is needed and some elements are left, the list's own block holds them
+  pub stay-ends : 0 < b → needsBlock a b ≡ false → (1 ≤ h) × (h - 1 + (b + 1) ≤ p)
+  stay-ends some m =
+      let s = stays a b some m in
+      (can .list .some (s .some), omega (arith, can .list .block (s .some), block-fits, ap sizeOf (s .class)))

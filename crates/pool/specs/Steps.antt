@@ -1,0 +1,91 @@
+-- What the inner steps of the code ask of their callers and give them. It speaks of the state, of numbers and of the pool's LENGTH, never of
+-- what the words are, so that it stands whatever was written before. Nobody has to believe this file: the calls' own contracts ask nothing.
+use mathlib.Core.Path.{_≡_}
+use Prim.Native.Nat.{ℕ, _+_, _-_, _≤_, _<_}
+use mathlib.Core.Bool.{true}
+use mathlib.Core.List.{List}
+use lib.ListN.{length}
+use Rattle.sizes.specs.Class.{longest, classCount, classOf, sizeOf}
+use Rattle.pool.specs.declared.ListPool.{ListPool}
+use Rattle.pool.specs.declared.Block.{Block}
+use Rattle.pool.specs.Numbers.{poolLimit, stateOf, headOf, handleAt, needsBlock}
+use Rattle.pool.specs.Blocks.{Taken, Freed, alloc, free, realloc, moved}
+use Rattle.pool.specs.declared.Answer.{Answer}
+use Rattle.pool.specs.Rules.{Outcome, outcome, lenOf}
+
+-- a list of n elements at the handle h, in a pool of p words: it is empty at 0 and only there, and its block lies in the pool
+pub record ListAt (p h n : ℕ) : Type 0 where
+  pub short : n ≤ longest
+  pub below : h ≤ p
+  pub ends : h + n ≤ p
+  pub none : h ≡ 0 → n ≡ 0
+  pub some : 0 < n → 1 ≤ h
+  pub block : 0 < n → h - 1 + sizeOf (classOf n) ≤ p
+
+-- a block of the class c can be taken: its head's block lies in the pool, or there is room at the end
+pub record CanAlloc (st : ListPool) (p c : ℕ) : Type 0 where
+  pub class : c < classCount
+  pub limit : p ≤ poolLimit
+  pub recycled : 0 < headOf st c → headOf st c - 1 + sizeOf c ≤ p
+  pub fresh : headOf st c ≡ 0 → st .used + sizeOf c ≤ p
+
+-- a block of the class c can be freed
+pub record CanFree (p block c : ℕ) : Type 0 where
+  pub class : c < classCount
+  pub limit : p ≤ poolLimit
+  pub whole : block + sizeOf c ≤ p
+
+-- k words can be moved from a block of one class to a new one of another
+pub record CanRealloc (st : ListPool) (p block from to k : ℕ) : Type 0 where
+  pub new : CanAlloc st p to
+  pub old : CanFree p block from
+  pub leaves : k ≤ sizeOf from
+  pub fits : k ≤ sizeOf to
+
+-- the list of a elements at h can get b
+pub record CanResize (st : ListPool) (p h a b : ℕ) : Type 0 where
+  pub limit : p ≤ poolLimit
+  pub list : ListAt p h a
+  pub most : b ≤ longest
+  pub room : needsBlock a b ≡ true → CanAlloc st p (classOf b)
+
+-- a call that leaves b elements in a slot's list can be done
+pub record Ready (st : ListPool) (ws hs : List ℕ) (slot b : ℕ) : Type 0 where
+  pub inside : slot < length hs
+  pub can : CanResize st (length ws) (handleAt hs slot) (lenOf ws hs slot) b
+
+-- a position in a slot's list, whose elements lie in the pool
+pub record HasAt (ws hs : List ℕ) (slot position : ℕ) : Type 0 where
+  pub inside : slot < length hs
+  pub before : position < lenOf ws hs slot
+  pub ends : handleAt hs slot + lenOf ws hs slot ≤ length ws
+
+-- a range of the source's list, and a position of a slot's list that can grow by as much
+pub record CanCopy (st : ListPool) (ws hs : List ℕ) (slot source start end position : ℕ) : Type 0 where
+  pub ready : Ready st ws hs slot (lenOf ws hs slot + (end - start))
+  pub place : position ≤ lenOf ws hs slot
+  pub order : start ≤ end
+  pub named : source < length hs
+  pub range : handleAt hs source + end ≤ length ws
+
+-- what the code of a number gives: the number, and where it is 0 what the call may rely on
+pub record Gives (number : ℕ) (Fine : Type 0) (r : ℕ) : Type 0 where
+  pub is : r ≡ number
+  pub fine : r ≡ 0 → Fine
+
+-- the block that the code hands back, with the heads and the words it left, as the rules have it
+abbrev pub taken : Block → List ℕ → List ℕ → Taken
+taken t heads ws = record { block = t .at; state = stateOf (t .used) heads; words = ws }
+
+abbrev pub freed : ℕ → List ℕ → List ℕ → Freed
+freed used heads ws = record { state = stateOf used heads; words = ws }
+
+-- a step did what the rule says, and the first n elements of the slot's list lie in the pool
+pub record Leaves (p : ℕ) (rule : Outcome) (slot n : ℕ) (r : Answer) (after tabled : List ℕ) : Type 0 where
+  pub is : outcome r after tabled ≡ rule
+  pub ends : handleAt tabled slot + n ≤ p
+
+-- a step did what the rule says, and the first k words of the block it took lie in the pool
+pub record Takes (p : ℕ) (rule : Taken) (k : ℕ) (t : Block) (heads after : List ℕ) : Type 0 where
+  pub is : taken t heads after ≡ rule
+  pub ends : t .at + k ≤ p

@@ -1,0 +1,228 @@
+// Which number a call is refused with: paper 01's table, judged on the state at entry. Nothing is changed here.
+ghost use mathlib.Core.Path.{_≡_};
+ghost use Prim.Native.Nat.{_+_, _-_, _≤_, _<_, min};
+ghost use lib.ListN.{length};
+ghost use Rattle.pool.specs.Numbers as numbers;
+ghost use Rattle.pool.specs.Numbers.{handleAt, stateOf};
+ghost use Rattle.sizes.specs.Class.{longest};
+ghost use Rattle.pool.specs.Rules as rules;
+ghost use Rattle.pool.specs.Rules.{lenOf};
+ghost use Rattle.pool.specs.Facts.{Entered};
+ghost use Rattle.pool.specs.Steps.{CanCopy, Gives, HasAt, Ready};
+use sizes::SizeClass;
+
+pub const POOL_LIMIT: usize = 65536;
+
+pub const TABLE_LIMIT: usize = 16384;
+
+// The length that stands before a handle; 0 for the empty list.
+pub fn length_at(pool: &[u32], h: u32) -> u32
+    requires { ⌜ h ≤ length (now pool) ⌝ }
+    ensures { λ r. ⌜ r ≡ numbers.lengthAt (now (pool .entry)) h ⌝ }
+{
+    if h == 0 {
+        return 0;
+    }
+    let at = h as usize;
+    pool[at - 1]
+}
+
+// Is a handle locally sound?
+fn sound_handle(used: usize, pool: &[u32], h: u32) -> bool
+    requires { ⌜ used ≤ length (now pool) ⌝ }
+    ensures { λ r. ⌜ r ≡ numbers.soundHandle used (now (pool .entry)) h ⌝ }
+{
+    if h == 0 {
+        return true;
+    }
+    if h % 4 != 1 {
+        return false;
+    }
+    let at = h as usize;
+    if at >= used {
+        return false;
+    }
+    let n = pool[at - 1];
+    if n < 1 {
+        return false;
+    }
+    at - 1 + SizeClass::size(SizeClass::for_length(n)) <= used
+}
+
+// Is a head of the class c locally sound?
+fn sound_head(used: usize, pool: &[u32], c: u32, h: u32) -> bool
+    requires { ⌜ (used ≤ length (now pool)) × (c ≤ 30) ⌝ }
+    ensures { λ r. ⌜ r ≡ numbers.soundHead used (now (pool .entry)) c h ⌝ }
+{
+    if h == 0 {
+        return true;
+    }
+    if h % 4 != 1 {
+        return false;
+    }
+    let at = h as usize;
+    if at - 1 + SizeClass::size(c) > used {
+        return false;
+    }
+    pool[at - 1] == 0
+}
+
+// Is the pool or the table over its limit?
+pub fn too_long(pool: usize, table: usize) -> bool
+    ensures { λ r. ⌜ r ≡ numbers.tooLong pool table ⌝ }
+{
+    if pool > POOL_LIMIT {
+        return true;
+    }
+    table > TABLE_LIMIT
+}
+
+// Is a limit passed?
+fn over_limit(used: u32, pool: usize, table: usize) -> bool
+    ensures { λ r. ⌜ r ≡ numbers.overLimit used pool table ⌝ }
+{
+    if too_long(pool, table) {
+        return true;
+    }
+    if used as usize > pool {
+        return true;
+    }
+    used % 4 != 0
+}
+
+// 1, 2, 3 or 0 for a call that names the list in a slot.
+pub fn entry_number(used: u32, pool: &[u32], handles: &[u32], slot: usize) -> u32
+    ensures { λ r. ⌜ Gives (numbers.entryNumber used (now (pool .entry)) (now (handles .entry)) slot) (Entered used (now (pool .entry)) (now (handles .entry)) slot) r ⌝ }
+{
+    if over_limit(used, pool.len(), handles.len()) {
+        return 1;
+    }
+    if slot >= handles.len() {
+        return 2;
+    }
+    if !sound_handle(used as usize, pool, handles[slot]) {
+        return 3;
+    }
+    0
+}
+
+// The same for a call that names the lists in two slots.
+pub fn entry_number_2(used: u32, pool: &[u32], handles: &[u32], slot: usize, other: usize) -> u32
+    ensures { λ r. ⌜ Gives (numbers.entryNumber₂ used (now (pool .entry)) (now (handles .entry)) slot other) ((Entered used (now (pool .entry)) (now (handles .entry)) slot) × (Entered used (now (pool .entry)) (now (handles .entry)) other)) r ⌝ }
+{
+    if over_limit(used, pool.len(), handles.len()) {
+        return 1;
+    }
+    if slot >= handles.len() {
+        return 2;
+    }
+    if other >= handles.len() {
+        return 2;
+    }
+    if !sound_handle(used as usize, pool, handles[slot]) {
+        return 3;
+    }
+    if !sound_handle(used as usize, pool, handles[other]) {
+        return 3;
+    }
+    0
+}
+
+// Does a list of a elements that gets b need another block?
+pub fn needs_block(a: u32, b: u32) -> bool
+    ensures { λ r. ⌜ r ≡ numbers.needsBlock a b ⌝ }
+{
+    if b == 0 {
+        return false;
+    }
+    if a == 0 {
+        return true;
+    }
+    if b > SizeClass::LONGEST {
+        return true;
+    }
+    SizeClass::for_length(a) != SizeClass::for_length(b)
+}
+
+// 6, 7 or 0 where a block is needed for n elements.
+fn room_number(used: u32, heads: &[u32; SizeClass::COUNT], pool: &[u32], n: u32) -> u32
+    requires { ⌜ used ≤ length (now pool) ⌝ }
+    ensures { λ r. ⌜ r ≡ numbers.roomNumber (stateOf used (now (heads .entry))) (now (pool .entry)) n ⌝ }
+{
+    if n > SizeClass::LONGEST {
+        return 7;
+    }
+    let c = SizeClass::for_length(n);
+    let i = c as usize;
+    let h = heads[i];
+    if !sound_head(used as usize, pool, c, h) {
+        return 6;
+    }
+    if h != 0 {
+        return 0;
+    }
+    if used as usize + SizeClass::size(c) > pool.len() {
+        return 7;
+    }
+    0
+}
+
+// 6, 7 or 0 for a list of a elements that gets b.
+fn need_number(used: u32, heads: &[u32; SizeClass::COUNT], pool: &[u32], a: u32, b: u32) -> u32
+    requires { ⌜ used ≤ length (now pool) ⌝ }
+    ensures { λ r. ⌜ r ≡ numbers.needNumber (stateOf used (now (heads .entry))) (now (pool .entry)) a b ⌝ }
+{
+    if needs_block(a, b) {
+        return room_number(used, heads, pool, b);
+    }
+    0
+}
+
+// The same for a list of a elements that grows by a count, of any size.
+fn more_number(
+    used: u32,
+    heads: &[u32; SizeClass::COUNT],
+    pool: &[u32],
+    a: u32,
+    count: usize,
+) -> u32
+    requires { ⌜ (used ≤ length (now pool)) × (a ≤ longest) ⌝ }
+    ensures { λ r. ⌜ r ≡ numbers.needNumber (stateOf used (now (heads .entry))) (now (pool .entry)) a (a + count) ⌝ }
+{
+    if count > SizeClass::LONGEST as usize {
+        return 7;
+    }
+    need_number(used, heads, pool, a, a + count as u32)
+}
+
+// The number of a call that makes the list in a slot grow by a count at its end.
+pub fn grow_number(
+    used: u32,
+    heads: &[u32; SizeClass::COUNT],
+    pool: &[u32],
+    handles: &[u32],
+    slot: usize,
+    count: usize,
+) -> u32
+    ensures { λ r. ⌜ Gives (rules.growNumber (stateOf used (now (heads .entry))) (now (pool .entry)) (now (handles .entry)) slot count) (Ready (stateOf used (now (heads .entry))) (now (pool .entry)) (now (handles .entry)) slot (lenOf (now (pool .entry)) (now (handles .entry)) slot + count)) r ⌝ }
+{
+    let entry = entry_number(used, pool, handles, slot);
+    if entry != 0 {
+        return entry;
+    }
+    more_number(used, heads, pool, length_at(pool, handles[slot]), count)
+}
+
+// The number of a call on the element at a position of the list in a slot.
+pub fn at_number(used: u32, pool: &[u32], handles: &[u32], slot: usize, position: usize) -> u32
+    ensures { λ r. ⌜ Gives (rules.atNumber used (now (pool .entry)) (now (handles .entry)) slot position) (HasAt (now (pool .entry)) (now (handles .entry)) slot position) r ⌝ }
+{
+    let entry = entry_number(used, pool, handles, slot);
+    if entry != 0 {
+        return entry;
+    }
+    if position >= length_at(pool, handles[slot]) as usize {
+        return 4;
+    }
+    0
+}
