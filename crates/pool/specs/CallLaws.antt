@@ -1,16 +1,18 @@
 -- How the code's steps make up the rules of the calls.
-use Prim.Native.Nat.{ℕ, _+_, _-_, _≤_, _<_}
-use mathlib.Core.Path.{_≡_, sym, ap, _∙_}
+use Prim.Native.Nat.{ℕ, _+_, _≤_, _<_}
+use mathlib.Core.Path.{_≡_, ap, _∙_}
 use mathlib.Core.List.{List}
-use lib.ListN.{length, getD, set}
+use lib.ListN.{length, set}
 use lib.Seq.{getD-set-same, set-comm}
+use native.Mathlib.Nat.{zero-add}
 use native.Mathlib.Omega.{arith}
 use Rattle.pool.specs.declared.ListPool.{ListPool}
 use Rattle.pool.specs.declared.Answer.{Answer}
-use Rattle.pool.specs.Numbers.{handleAt}
+use Rattle.pool.specs.Numbers.{handleAt, needNumber}
 use Rattle.pool.specs.Blocks.{Taken, moved}
 use Rattle.pool.specs.Rules.{Outcome, outcome, answer, lenOf, seated, pushDone}
-use Rattle.pool.specs.Steps.{Leaves}
+use Rattle.pool.specs.Steps.{Leaves, Ready}
+use Rattle.pool.specs.Facts.{Entered, ready}
 
 -- a list that was seated in a block that holds it
 pub seated-leaves : (p value : ℕ) (m : Taken) (hs : List ℕ) (slot n : ℕ) {r : Answer} {after tabled : List ℕ} → slot < length hs → m .block + (n + 1) ≤ p
@@ -34,3 +36,14 @@ push-seated st ws hs slot x r after tabled inside e =
     let place : m .block + 1 + n ≡ m .block + (n + 1) = omega arith in
     ap (λ (o : Outcome). outcome (o .answer) (set (o .words) (handleAt (o .handles) slot + n) x) (o .handles)) e
     ∙ rw (at, place) (ap (λ (w : List ℕ). outcome (answer 0 n (m .state)) w (set hs slot (m .block + 1))) (set-comm (m .words) (m .block) (m .block + (n + 1)) (n + 1) x (omega arith)))
+
+-- an empty list can get what no number of an empty list refuses
+pub ready-empty : (st : ListPool) (ws hs : List ℕ) (slot b : ℕ) → Entered (st .used) ws hs slot → handleAt hs slot ≡ 0 → needNumber st ws 0 b ≡ 0
+    → Ready st ws hs slot (lenOf ws hs slot + b)
+ready-empty st ws hs slot b f z e = ready st ws hs slot _ f (rw (f .list .none z, zero-add) e)
+
+-- words written after a step, at a place of the list it left
+pub outcome-written : (f : List ℕ → List ℕ → List ℕ) {r : Answer} {after tabled written : List ℕ} {o : Outcome} → outcome r after tabled ≡ o → written ≡ f after tabled
+    → outcome r written tabled ≡ outcome (o .answer) (f (o .words) (o .handles)) (o .handles)
+outcome-written f {r} {tabled = tabled} e w =
+    ap (λ (l : List ℕ). outcome r l tabled) w ∙ ap (λ (o : Outcome). outcome (o .answer) (f (o .words) (o .handles)) (o .handles)) e

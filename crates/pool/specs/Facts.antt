@@ -1,12 +1,12 @@
 -- What the tests and numbers of a call say where they do not refuse it. Each fact is stated once and cited by every call.
-use Prim.Native.Nat.{ℕ, _+_, _-_, _%_, _^_, _≤_, _<_}
+use Prim.Native.Nat.{ℕ, _+_, _-_, _%_, _≤_, _<_}
 use mathlib.Core.Path.{_≡_, refl, sym, ap, _∙_}
 use mathlib.Core.Logic.{_⊎_, inl, inr, ⊎-elim}
 use mathlib.Core.Bool.{Bool, true, false, cond, not, _&&_, _||_, and-eq-true-iff, true≢false}
 use mathlib.Core.List.{List}
 use lib.ListN.{length, getD}
 use lib.Dec.{ltb, leb, eqb}
-use borrow.Author.Tests.{ltb-true, ltb-false, leb-true, leb-false, eqb-true, eqb-false, eq-eqb, ne-eqb, le-ltb, lt-ltb, lt-leb, le-leb, not-false}
+use borrow.Author.Tests.{ltb-true, ltb-false, leb-true, leb-false, eqb-true, eqb-false, eq-eqb, ne-eqb, lt-ltb, lt-leb, le-leb, not-false}
 use native.Mathlib.Nat.{eq-zero-or-pos}
 use native.Mathlib.Omega.{arith}
 use Rattle.sizes.specs.Class.{longest, classOf, sizeOf}
@@ -14,7 +14,7 @@ use Rattle.sizes.specs.Laws.{class-holds, class-below}
 use Rattle.pool.specs.declared.ListPool.{ListPool}
 use Rattle.pool.specs.Numbers.{_orElse_, poolLimit, tableLimit, headOf, handleAt, lengthAt, soundHandle, soundHead, given, tooLong, overLimit, entryNumber, entryNumber₂, badHead, noRoom, roomNumber, needsBlock, needNumber}
 use Rattle.pool.specs.Rules.{lenOf}
-use Rattle.pool.specs.Steps.{ListAt, CanAlloc, CanResize, Ready}
+use Rattle.pool.specs.Steps.{ListAt, CanAlloc, Ready}
 
 -- TESTS
 
@@ -97,6 +97,7 @@ list-at used ws h below limit e = go (eq-zero-or-pos h)
           ends = omega arith;
           none = λ q. refl;
           some = λ q. absurd (omega arith);
+          live = λ q. absurd (omega arith);
           block = λ q. absurd (omega arith);
         })
     go (inr p) =
@@ -109,6 +110,7 @@ list-at used ws h below limit e = go (eq-zero-or-pos h)
           ends = omega arith;
           none = λ q. absurd (omega arith);
           some = λ q. p;
+          live = λ q. live .some;
           block = λ q. omega arith;
         })
 

@@ -6,3 +6,5 @@ pub mod Steps
 pub mod Facts
 pub mod StepLaws
 pub mod CallLaws
+pub mod Promises
+pub mod Parts

@@ -1,7 +1,7 @@
 -- The word rules of every call of paper 01: for each call the number that it is refused with (0: none), and what is done where it is not
 -- refused. A call's outcome is the one or the other: `called`, at the end. Throughout `ws` is the pool's words and `hs` the table's handles.
 use Prim.Native.Nat.{ℕ, _+_, _-_, min}
-use mathlib.Core.Bool.{Bool, cond, not, _||_}
+use mathlib.Core.Bool.{cond, not, _||_}
 use mathlib.Core.List.{List}
 use lib.ListN.{length, getD, set, replicate}
 use lib.Dec.{eqb, leb, ltb}

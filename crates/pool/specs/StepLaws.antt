@@ -1,16 +1,21 @@
 -- What the callers of the inner steps use of what they ask and give.
 use Prim.Native.Nat.{ℕ, _+_, _-_, _≤_, _<_, min}
-use mathlib.Core.Path.{_≡_, ap}
+use mathlib.Core.Path.{_≡_, refl, sym, ap, _∙_}
 use mathlib.Core.Logic.{⊎-elim}
-use mathlib.Core.Bool.{true, false}
+use mathlib.Core.Bool.{Bool, true, false, cond, not, _&&_, _||_}
+use mathlib.Core.List.{List}
+use lib.ListN.{length}
+use lib.Dec.{eqb}
+use borrow.Author.Tests.{le-ltb, eq-eqb}
 use native.Mathlib.Nat.{eq-zero-or-pos}
 use native.Mathlib.Omega.{arith}
-use Rattle.sizes.specs.Class.{longest, classCount, classOf, sizeOf}
+use Rattle.sizes.specs.Class.{longest, classOf, sizeOf}
 use Rattle.sizes.specs.Laws.{class-fits, class-below, size-least}
 use Rattle.pool.specs.declared.ListPool.{ListPool}
-use Rattle.pool.specs.Numbers.{poolLimit, headOf, needsBlock}
-use Rattle.pool.specs.Steps.{ListAt, CanAlloc, CanFree, CanRealloc, CanResize}
-use Rattle.pool.specs.Facts.{stays}
+use Rattle.pool.specs.Numbers.{poolLimit, headOf, handleAt, roomNumber, needsBlock, needNumber}
+use Rattle.pool.specs.Rules.{lenOf, atNumber}
+use Rattle.pool.specs.Steps.{ListAt, CanAlloc, CanFree, CanRealloc, CanResize, Ready, HasAt}
+use Rattle.pool.specs.Facts.{Entered, else-first, entry-facts, stays}
 
 -- the head of a class whose block can be taken lies in the pool
 pub head-below : (st : ListPool) (p c : ℕ) → CanAlloc st p c → headOf st c < p
@@ -44,3 +49,22 @@ module _ (st : ListPool) (p h a b : ℕ) (can : CanResize st p h a b) where
   stay-ends some m =
       let s = stays a b some m in
       (can .list .some (s .some), omega (arith, can .list .block (s .some), block-fits, ap sizeOf (s .class)))
+
+-- a list that keeps its length needs no block
+pub need-same : (st : ListPool) (ws : List ℕ) (a b : ℕ) → a ≤ longest → b ≡ a → needNumber st ws a b ≡ 0
+unfolding needNumber needsBlock
+need-same st ws a b short e = rw (e, le-ltb longest a short, eq-eqb (classOf a) (classOf a) refl) (go (eqb a 0))
+  where
+    go : (t : Bool) → _≡_ {A = ℕ} (cond (not t && (t || false || not true)) (roomNumber st ws a) 0) 0
+    go true = refl
+    go false = refl
+
+-- a call that 4 does not refuse is one that 1, 2 and 3 do not
+pub at-entered : (used : ℕ) (ws hs : List ℕ) (slot position : ℕ) {r : ℕ} → r ≡ atNumber used ws hs slot position → r ≡ 0 → Entered used ws hs slot
+unfolding atNumber
+at-entered used ws hs slot position e z = entry-facts used ws hs slot (else-first _ _ (sym e ∙ z))
+
+-- a call that may remove an element can remove the last one, wherever the elements were moved before
+pub can-remove-last : (st : ListPool) (ws hs : List ℕ) (slot position : ℕ) {p n : ℕ} → (HasAt ws hs slot position) × (Ready st ws hs slot (lenOf ws hs slot - 1)) → p ≡ length ws → n ≡ lenOf ws hs slot
+    → (CanResize st p (handleAt hs slot) n (n - 1)) × (1 ≤ n) × (slot < length hs)
+can-remove-last st ws hs slot position f e g = rw (e, g) (f .1 .can, omega (arith, f .0 .before), f .1 .inside)

@@ -9,7 +9,7 @@ use Rattle.sizes.specs.Class.{longest, classCount, classOf, sizeOf}
 use Rattle.pool.specs.declared.ListPool.{ListPool}
 use Rattle.pool.specs.declared.Block.{Block}
 use Rattle.pool.specs.Numbers.{poolLimit, stateOf, headOf, handleAt, needsBlock}
-use Rattle.pool.specs.Blocks.{Taken, Freed, alloc, free, realloc, moved}
+use Rattle.pool.specs.Blocks.{Taken, Freed}
 use Rattle.pool.specs.declared.Answer.{Answer}
 use Rattle.pool.specs.Rules.{Outcome, outcome, lenOf}
 
@@ -20,6 +20,7 @@ pub record ListAt (p h n : ℕ) : Type 0 where
   pub ends : h + n ≤ p
   pub none : h ≡ 0 → n ≡ 0
   pub some : 0 < n → 1 ≤ h
+  pub live : 0 < h → 0 < n
   pub block : 0 < n → h - 1 + sizeOf (classOf n) ≤ p
 
 -- a block of the class c can be taken: its head's block lies in the pool, or there is room at the end

@@ -3,7 +3,7 @@ ghost use mathlib.Core.Path.{_≡_};
 ghost use mathlib.Core.Bool.{true};
 ghost use Prim.Native.Nat.{ℕ, _+_};
 ghost use lib.ListN.{length};
-ghost use Rattle.sizes.specs.Class.{classOf, sizeOf};
+ghost use Rattle.sizes.specs.Class.{sizeOf};
 ghost use Rattle.pool.specs.Numbers.{stateOf, needsBlock};
 ghost use Rattle.pool.specs.Blocks as blocks;
 ghost use Rattle.pool.specs.Steps.{CanAlloc, CanFree, CanRealloc, CanResize, Takes, freed};

@@ -1,9 +1,10 @@
 // The calls that make a list longer.
 ghost use mathlib.Core.Path.{_≡_};
-ghost use Prim.Native.Nat.{_+_};
+ghost use Prim.Native.Nat.{_+_, _≤_};
+ghost use lib.ListN.{length};
 ghost use Rattle.pool.specs.Rules as rules;
 ghost use Rattle.pool.specs.Rules.{called, outcome, lenOf};
-ghost use Rattle.pool.specs.Steps.{Ready};
+ghost use Rattle.pool.specs.Steps.{CanCopy, Leaves, Ready};
 use super::Answer;
 use super::ListPool;
 use super::numbers;
@@ -17,14 +18,70 @@ fn push_done(
     element: u32,
 ) -> Answer
     requires { ⌜ Ready state (now pool) (now handles) slot (lenOf (now pool) (now handles) slot + 1) ⌝ }
-    ensures { λ r. ⌜ outcome r (now (pool .exit)) (now (handles .exit)) ≡ rules.pushDone state (now (pool .entry)) (now (handles .entry)) slot element ⌝ }
+    ensures { λ r. ⌜ Leaves (length (now (pool .entry))) (rules.pushDone state (now (pool .entry)) (now (handles .entry)) slot element) slot (lenOf (now (pool .entry)) (now (handles .entry)) slot + 1) r (now (pool .exit)) (now (handles .exit)) ⌝ }
 {
     let h = handles[slot];
     let len = numbers::length_at(pool, h);
     let answer = steps::resize(state, pool, handles, slot, h, len, len + 1, len);
-    let at = handles[slot] as usize + len as usize;
-    pool[at] = element;
+    let end = handles[slot] as usize + len as usize;
+    pool[end] = element;
     answer
+}
+
+fn extend_done(
+    state: ListPool,
+    pool: &mut [u32],
+    handles: &mut [u32],
+    slot: usize,
+    elements: &[u32],
+) -> Answer
+    requires { ⌜ Ready state (now pool) (now handles) slot (lenOf (now pool) (now handles) slot + length (now elements)) ⌝ }
+    ensures { λ r. ⌜ outcome r (now (pool .exit)) (now (handles .exit)) ≡ rules.extendDone state (now (pool .entry)) (now (handles .entry)) slot (now (elements .entry)) ⌝ }
+{
+    let len = numbers::length_at(pool, handles[slot]) as usize;
+    let answer = steps::grow(state, pool, handles, slot, elements.len());
+    let first = handles[slot] as usize;
+    words::store(pool, first + len, elements);
+    answer
+}
+
+fn copy_from_done(
+    state: ListPool,
+    pool: &mut [u32],
+    handles: &mut [u32],
+    slot: usize,
+    source: usize,
+    start: usize,
+    end: usize,
+    position: usize,
+) -> Answer
+    requires { ⌜ CanCopy state (now pool) (now handles) slot source start end position ⌝ }
+    ensures { λ r. ⌜ outcome r (now (pool .exit)) (now (handles .exit)) ≡ rules.copyFromDone state (now (pool .entry)) (now (handles .entry)) slot source start end position ⌝ }
+{
+    let from = handles[source] as usize + start;
+    let answer = steps::open(state, pool, handles, slot, position, end - start);
+    let at = handles[slot] as usize + position;
+    words::copy(pool, from, at, end - start);
+    answer
+}
+
+fn insert_done(
+    state: ListPool,
+    pool: &mut [u32],
+    handles: &mut [u32],
+    slot: usize,
+    position: usize,
+    element: u32,
+) -> Answer
+    requires { ⌜ (position ≤ lenOf (now pool) (now handles) slot) × (Ready state (now pool) (now handles) slot (lenOf (now pool) (now handles) slot + 1)) ⌝ }
+    ensures { λ r. ⌜ outcome r (now (pool .exit)) (now (handles .exit)) ≡ rules.insertDone state (now (pool .entry)) (now (handles .entry)) slot position element ⌝ }
+{
+    let len = numbers::length_at(pool, handles[slot]) as usize;
+    let pushed = push_done(state, pool, handles, slot, element);
+    let at = handles[slot] as usize + position;
+    words::shift_up(pool, at, at + 1, len - position);
+    pool[at] = element;
+    steps::done(pushed.state, 0)
 }
 
 impl ListPool {
@@ -37,5 +94,111 @@ impl ListPool {
             return steps::refused(self, number);
         }
         push_done(self, pool, handles, slot, element)
+    }
+
+    // Appends the elements to the list in a slot.
+    pub fn extend(
+        self,
+        pool: &mut [u32],
+        handles: &mut [u32],
+        slot: usize,
+        elements: &[u32],
+    ) -> Answer
+        ensures { λ r. ⌜ outcome r (now (pool .exit)) (now (handles .exit)) ≡ called (rules.extend slot (now (elements .entry))) self (now (pool .entry)) (now (handles .entry)) ⌝ }
+    {
+        let number = numbers::grow_number(
+            self.used,
+            &self.heads,
+            pool,
+            handles,
+            slot,
+            elements.len(),
+        );
+        if number != 0 {
+            return steps::refused(self, number);
+        }
+        extend_done(self, pool, handles, slot, elements)
+    }
+
+    // Copies the elements from start to end of the list in the slot source into the list in a slot, at a position.
+    pub fn copy_from(
+        self,
+        pool: &mut [u32],
+        handles: &mut [u32],
+        slot: usize,
+        source: usize,
+        start: usize,
+        end: usize,
+        position: usize,
+    ) -> Answer
+        ensures { λ r. ⌜ outcome r (now (pool .exit)) (now (handles .exit)) ≡ called (rules.copyFrom slot source start end position) self (now (pool .entry)) (now (handles .entry)) ⌝ }
+    {
+        let number = numbers::copy_from_number(
+            self.used,
+            &self.heads,
+            pool,
+            handles,
+            slot,
+            source,
+            start,
+            end,
+            position,
+        );
+        if number != 0 {
+            return steps::refused(self, number);
+        }
+        copy_from_done(self, pool, handles, slot, source, start, end, position)
+    }
+
+    // Puts an element at a position of the list in a slot; those from there on shift up.
+    pub fn insert(
+        self,
+        pool: &mut [u32],
+        handles: &mut [u32],
+        slot: usize,
+        position: usize,
+        element: u32,
+    ) -> Answer
+        ensures { λ r. ⌜ outcome r (now (pool .exit)) (now (handles .exit)) ≡ called (rules.insert slot position element) self (now (pool .entry)) (now (handles .entry)) ⌝ }
+    {
+        let number = numbers::grow_at_number(
+            self.used,
+            &self.heads,
+            pool,
+            handles,
+            slot,
+            position,
+            1,
+        );
+        if number != 0 {
+            return steps::refused(self, number);
+        }
+        insert_done(self, pool, handles, slot, position, element)
+    }
+
+    // Grows the list in a slot by a count at a position; the places that opens keep what stood there.
+    pub fn grow_at(
+        self,
+        pool: &mut [u32],
+        handles: &mut [u32],
+        slot: usize,
+        position: usize,
+        count: usize,
+    ) -> Answer
+        ensures { λ r. ⌜ outcome r (now (pool .exit)) (now (handles .exit)) ≡ called (rules.growAt slot position count) self (now (pool .entry)) (now (handles .entry)) ⌝ }
+    {
+        let number = numbers::grow_at_number(
+            self.used,
+            &self.heads,
+            pool,
+            handles,
+            slot,
+            position,
+            count,
+        );
+        if number != 0 {
+            return steps::refused(self, number);
+        }
+        steps::open(self, pool, handles, slot, position, count)
     }
 }

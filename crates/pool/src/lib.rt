@@ -13,8 +13,12 @@ use sizes::SizeClass;
 
 mod blocks;
 mod growing;
+mod making;
 mod numbers;
+mod reading;
+mod shrinking;
 mod steps;
+mod writing;
 
 // The pool's state, a value that each call takes and hands back: how many words are used, and the head of each class's chain of free blocks.
 #[repr(C)]

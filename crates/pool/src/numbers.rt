@@ -3,7 +3,7 @@ ghost use mathlib.Core.Path.{_≡_};
 ghost use Prim.Native.Nat.{_+_, _-_, _≤_, _<_, min};
 ghost use lib.ListN.{length};
 ghost use Rattle.pool.specs.Numbers as numbers;
-ghost use Rattle.pool.specs.Numbers.{handleAt, stateOf};
+ghost use Rattle.pool.specs.Numbers.{stateOf};
 ghost use Rattle.sizes.specs.Class.{longest};
 ghost use Rattle.pool.specs.Rules as rules;
 ghost use Rattle.pool.specs.Rules.{lenOf};
@@ -225,4 +225,161 @@ pub fn at_number(used: u32, pool: &[u32], handles: &[u32], slot: usize, position
         return 4;
     }
     0
+}
+
+// The number of `take`.
+pub fn take_number(used: u32, pool: &[u32], handles: &[u32], slot: usize, to: usize) -> u32
+    ensures { λ r. ⌜ Gives (rules.takeNumber used (now (pool .entry)) (now (handles .entry)) slot to) ((slot < length (now (handles .entry))) × (to < length (now (handles .entry)))) r ⌝ }
+{
+    let entry = entry_number_2(used, pool, handles, slot, to);
+    if entry != 0 {
+        return entry;
+    }
+    if slot == to {
+        return 5;
+    }
+    if handles[to] != 0 {
+        return 5;
+    }
+    0
+}
+
+// The number of `remove` and `swap_remove`.
+pub fn remove_number(
+    used: u32,
+    heads: &[u32; SizeClass::COUNT],
+    pool: &[u32],
+    handles: &[u32],
+    slot: usize,
+    position: usize,
+) -> u32
+    ensures { λ r. ⌜ Gives (rules.removeNumber (stateOf used (now (heads .entry))) (now (pool .entry)) (now (handles .entry)) slot position) ((HasAt (now (pool .entry)) (now (handles .entry)) slot position) × (Ready (stateOf used (now (heads .entry))) (now (pool .entry)) (now (handles .entry)) slot (lenOf (now (pool .entry)) (now (handles .entry)) slot - 1))) r ⌝ }
+{
+    let entry = at_number(used, pool, handles, slot, position);
+    if entry != 0 {
+        return entry;
+    }
+    let len = length_at(pool, handles[slot]);
+    need_number(used, heads, pool, len, len - 1)
+}
+
+// The number of `truncate`.
+pub fn truncate_number(
+    used: u32,
+    heads: &[u32; SizeClass::COUNT],
+    pool: &[u32],
+    handles: &[u32],
+    slot: usize,
+    n: usize,
+) -> u32
+    ensures { λ r. ⌜ Gives (rules.truncateNumber (stateOf used (now (heads .entry))) (now (pool .entry)) (now (handles .entry)) slot n) (Ready (stateOf used (now (heads .entry))) (now (pool .entry)) (now (handles .entry)) slot (min (lenOf (now (pool .entry)) (now (handles .entry)) slot) n)) r ⌝ }
+{
+    let entry = entry_number(used, pool, handles, slot);
+    if entry != 0 {
+        return entry;
+    }
+    let len = length_at(pool, handles[slot]);
+    if n >= len as usize {
+        return 0;
+    }
+    need_number(used, heads, pool, len, n as u32)
+}
+
+// The number of `insert` and `grow_at`.
+pub fn grow_at_number(
+    used: u32,
+    heads: &[u32; SizeClass::COUNT],
+    pool: &[u32],
+    handles: &[u32],
+    slot: usize,
+    position: usize,
+    count: usize,
+) -> u32
+    ensures { λ r. ⌜ Gives (rules.growAtNumber (stateOf used (now (heads .entry))) (now (pool .entry)) (now (handles .entry)) slot position count) ((position ≤ lenOf (now (pool .entry)) (now (handles .entry)) slot) × (Ready (stateOf used (now (heads .entry))) (now (pool .entry)) (now (handles .entry)) slot (lenOf (now (pool .entry)) (now (handles .entry)) slot + count))) r ⌝ }
+{
+    let entry = entry_number(used, pool, handles, slot);
+    if entry != 0 {
+        return entry;
+    }
+    let len = length_at(pool, handles[slot]);
+    if (len as usize) < position {
+        return 4;
+    }
+    more_number(used, heads, pool, len, count)
+}
+
+// The number of `from_slice`, of count elements.
+pub fn from_slice_number(
+    used: u32,
+    heads: &[u32; SizeClass::COUNT],
+    pool: &[u32],
+    handles: &[u32],
+    slot: usize,
+    count: usize,
+) -> u32
+    ensures { λ r. ⌜ Gives (rules.fromSliceNumber (stateOf used (now (heads .entry))) (now (pool .entry)) (now (handles .entry)) slot count) (Ready (stateOf used (now (heads .entry))) (now (pool .entry)) (now (handles .entry)) slot (lenOf (now (pool .entry)) (now (handles .entry)) slot + count)) r ⌝ }
+{
+    let entry = entry_number(used, pool, handles, slot);
+    if entry != 0 {
+        return entry;
+    }
+    if handles[slot] != 0 {
+        return 5;
+    }
+    more_number(used, heads, pool, 0, count)
+}
+
+// The number of `deep_clone`.
+pub fn deep_clone_number(
+    used: u32,
+    heads: &[u32; SizeClass::COUNT],
+    pool: &[u32],
+    handles: &[u32],
+    slot: usize,
+    to: usize,
+) -> u32
+    ensures { λ r. ⌜ Gives (rules.deepCloneNumber (stateOf used (now (heads .entry))) (now (pool .entry)) (now (handles .entry)) slot to) ((Entered used (now (pool .entry)) (now (handles .entry)) slot) × (Ready (stateOf used (now (heads .entry))) (now (pool .entry)) (now (handles .entry)) to (lenOf (now (pool .entry)) (now (handles .entry)) to + lenOf (now (pool .entry)) (now (handles .entry)) slot))) r ⌝ }
+{
+    let entry = entry_number_2(used, pool, handles, slot, to);
+    if entry != 0 {
+        return entry;
+    }
+    if handles[to] != 0 {
+        return 5;
+    }
+    need_number(used, heads, pool, 0, length_at(pool, handles[slot]))
+}
+
+// The number of `copy_from`: of the range from start to end of the list in the slot source, to a position of the list in a slot.
+pub fn copy_from_number(
+    used: u32,
+    heads: &[u32; SizeClass::COUNT],
+    pool: &[u32],
+    handles: &[u32],
+    slot: usize,
+    source: usize,
+    start: usize,
+    end: usize,
+    position: usize,
+) -> u32
+    ensures { λ r. ⌜ Gives (rules.copyFromNumber (stateOf used (now (heads .entry))) (now (pool .entry)) (now (handles .entry)) slot source start end position) (CanCopy (stateOf used (now (heads .entry))) (now (pool .entry)) (now (handles .entry)) slot source start end position) r ⌝ }
+{
+    let entry = entry_number_2(used, pool, handles, slot, source);
+    if entry != 0 {
+        return entry;
+    }
+    let len = length_at(pool, handles[slot]);
+    if position > len as usize {
+        return 4;
+    }
+    if start > end {
+        return 4;
+    }
+    if end > length_at(pool, handles[source]) as usize {
+        return 4;
+    }
+    if handles[slot] == handles[source] {
+        return 5;
+    }
+    more_number(used, heads, pool, len, end - start)
 }

@@ -68,3 +68,85 @@ pub fn resize(
     seat(pool, handles, slot, block, n);
     done(state, value)
 }
+
+// The list of len elements at the handle h loses its block, if it has one, and its slot is empty.
+pub fn cleared(
+    mut state: ListPool,
+    pool: &mut [u32],
+    handles: &mut [u32],
+    slot: usize,
+    h: u32,
+    len: u32,
+) -> Answer
+    requires { ⌜ (ListAt (length (now pool)) h len) × (length (now pool) ≤ poolLimit) × (slot < length (now handles)) ⌝ }
+    ensures { λ r. ⌜ outcome r (now (pool .exit)) (now (handles .exit)) ≡ rules.cleared state (now (pool .entry)) (now (handles .entry)) slot h len ⌝ }
+{
+    if h == 0 {
+        return done(state, 0);
+    }
+    blocks::free(
+        &mut state.heads,
+        pool,
+        h as usize - 1,
+        SizeClass::for_length(len),
+    );
+    handles[slot] = 0;
+    done(state, 0)
+}
+
+// The list of len elements at the handle h loses its last one.
+pub fn remove_last(
+    state: ListPool,
+    pool: &mut [u32],
+    handles: &mut [u32],
+    slot: usize,
+    h: u32,
+    len: u32,
+) -> Answer
+    requires { ⌜ (CanResize state (length (now pool)) h len (len - 1)) × (1 ≤ len) × (slot < length (now handles)) ⌝ }
+    ensures { λ r. ⌜ outcome r (now (pool .exit)) (now (handles .exit)) ≡ rules.lastRemoved state (now (pool .entry)) (now (handles .entry)) slot h len ⌝ }
+{
+    if len == 1 {
+        return cleared(state, pool, handles, slot, h, len);
+    }
+    resize(state, pool, handles, slot, h, len, len - 1, 0)
+}
+
+// The list in a slot grows by a count at its end; the places that opens keep what stood there.
+pub fn grow(
+    state: ListPool,
+    pool: &mut [u32],
+    handles: &mut [u32],
+    slot: usize,
+    count: usize,
+) -> Answer
+    requires { ⌜ Ready state (now pool) (now handles) slot (lenOf (now pool) (now handles) slot + count) ⌝ }
+    ensures { λ r. ⌜ Leaves (length (now (pool .entry))) (rules.grown state (now (pool .entry)) (now (handles .entry)) slot count) slot (lenOf (now (pool .entry)) (now (handles .entry)) slot + count) r (now (pool .exit)) (now (handles .exit)) ⌝ }
+{
+    let h = handles[slot];
+    let len = numbers::length_at(pool, h);
+    let n = len + count as u32;
+    if n == 0 {
+        return done(state, 0);
+    }
+    resize(state, pool, handles, slot, h, len, n, 0)
+}
+
+// The list in a slot grows by a count at a position: the tail from there on goes up.
+pub fn open(
+    state: ListPool,
+    pool: &mut [u32],
+    handles: &mut [u32],
+    slot: usize,
+    position: usize,
+    count: usize,
+) -> Answer
+    requires { ⌜ (position ≤ lenOf (now pool) (now handles) slot) × (Ready state (now pool) (now handles) slot (lenOf (now pool) (now handles) slot + count)) ⌝ }
+    ensures { λ r. ⌜ Leaves (length (now (pool .entry))) (rules.opened state (now (pool .entry)) (now (handles .entry)) slot position count) slot (lenOf (now (pool .entry)) (now (handles .entry)) slot + count) r (now (pool .exit)) (now (handles .exit)) ⌝ }
+{
+    let len = numbers::length_at(pool, handles[slot]) as usize;
+    let answer = grow(state, pool, handles, slot, count);
+    let at = handles[slot] as usize + position;
+    words::shift_up(pool, at, at + count, len - position);
+    answer
+}

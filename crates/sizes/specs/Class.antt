@@ -1,6 +1,6 @@
 -- Size classes: word rule 1 of paper 01, the class of a length and the size of a class, with their limits.
 use mathlib.Core.Path.{_≡_}
-use mathlib.Core.Bool.{Bool, cond}
+use mathlib.Core.Bool.{cond}
 use Prim.Native.Nat.{ℕ, _-_, _*_, _^_, _≤_}
 use lib.Bits.{bitOr}
 use lib.Count.{leadingZeros}

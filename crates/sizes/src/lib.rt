@@ -1,5 +1,4 @@
 // Size classes: lists are stored in blocks whose sizes are powers of two, from 4 words on.
-ghost use mathlib.Core.Path.{_≡_};
 ghost use Rattle.sizes.specs.Class.{ClassOf, SizeOf};
 
 // The class type: its limits as constants, the class of a length and the size of a class as functions.

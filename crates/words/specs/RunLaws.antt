@@ -1,12 +1,12 @@
 -- Laws of runs: which word stands where after a run of stores, and how a run grows by a word at its end or at its start.
 use mathlib.Core.Path.{_≡_, refl, _∙_}
-use mathlib.Core.List.{List, [], _∷_, _++_}
+use mathlib.Core.List.{List, [], _∷_, _++_, append-nil}
 use Prim.Native.Nat.{ℕ, zero, suc, _+_, _≤_, _<_}
 use native.Mathlib.Nat.{add-zero, add-suc, suc-add}
 use native.Mathlib.Numerals.{add-one}
 use native.Mathlib.Omega.{arith}
-use lib.ListN.{length, getD, set, take, drop, replicate, length-set, length-take, length-drop, length-replicate, getD-replicate}
-use lib.Seq.{sets, set-comm, getD-set-other, getD-set-same, getD-take, getD-drop, length-sets, length-take-le, take-suc, drop-cons}
+use lib.ListN.{length, getD, set, take, drop, replicate, length-set, length-take, length-drop, length-replicate, getD-replicate, drop-of-length-le}
+use lib.Seq.{sets, sets-eq, set-comm, getD-set-other, getD-set-same, getD-take, getD-drop, length-sets, length-take-le, take-suc, drop-cons}
 use Rattle.words.specs.Runs.{filled, copied, stored}
 
 -- a run keeps the length
@@ -69,3 +69,8 @@ set-sets-take ws at xs i h = rw (add-one, take-suc xs i 0 h, sets-append, length
 
 pub set-sets-drop : (ws : List ℕ) (at : ℕ) (xs : List ℕ) (i : ℕ) → i < length xs → set (sets ws (at + (i + 1)) (drop (i + 1) xs)) (at + i) (getD xs i 0) ≡ sets ws (at + i) (drop i xs)
 set-sets-drop ws at xs i h = rw (add-one, drop-cons xs i 0 h, add-suc) (set-sets-below ws (suc (at + i)) (drop (suc i) xs) (at + i) (getD xs i 0) (omega arith))
+
+-- a run over every word
+pub filled-whole : (ws : List ℕ) (v : ℕ) → filled ws 0 (length ws) v ≡ replicate (length ws) v
+unfolding filled
+filled-whole ws v = sets-eq (replicate (length ws) v) ws 0 (rw length-replicate (omega arith)) ∙ rw (length-replicate, drop-of-length-le ws {i = 0 + length ws} (omega arith), append-nil)

@@ -1,5 +1,4 @@
 -- `push` meets its contract: refused with its number, or done.
-use mathlib.Core.Path.{sym, _∙_}
 use Rattle.pool.specs.Rules.{called, unless, numberOf, doneOf}
 use Rattle.pool.proofs.Tests.{tests}
 use borrow.Author.Needs.{needs}
@@ -33,7 +32,7 @@ same-length-4 c = search needs
 
 returns-2 : tie.Need-returns-2
 unfolding called unless numberOf doneOf
-returns-2 c = search (tests, ← c .before .before .before .before .before .before .before .before .grow-number .ensures .is, ← c .before .before .before .before .push-done .ensures)
+returns-2 c = search (tests, ← c .before .before .before .before .before .before .before .before .grow-number .ensures .is, ← c .before .before .before .before .push-done .ensures .is)
 
 pub push-spec : {M : Type 1} → statement M
 push-spec =

@@ -1,9 +1,8 @@
+-- `alloc` meets its contract.
 use Rattle.pool.specs.Numbers.{stateOf}
 use Rattle.pool.specs.StepLaws.{head-below}
--- `alloc` meets its contract.
 use native.Mathlib.Omega.{arith}
 use Rattle.pool.specs.Blocks as blocks
-use Rattle.sizes.specs.Laws.{size-least}
 use Rattle.pool.proofs.Tests.{tests}
 use borrow.Author.Needs.{needs}
 use Rattle.pool.proofs.blocks.alloc.Statement.{statement}

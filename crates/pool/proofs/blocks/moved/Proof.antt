@@ -1,7 +1,7 @@
 -- `moved` meets its contract: a block for an empty list, or the list's block exchanged.
 use native.Mathlib.Omega.{arith}
-use Prim.Native.Nat.{_≤_, min}
-use mathlib.Core.Path.{_≡_, ap, _∙_}
+use Prim.Native.Nat.{min}
+use mathlib.Core.Path.{_≡_, ap}
 use mathlib.Core.Logic.{⊎-elim}
 use borrow.Author.Tests.{eq-eqb, ne-eqb}
 use Rattle.sizes.specs.Class.{sizeOf}

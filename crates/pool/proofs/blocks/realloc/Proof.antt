@@ -1,6 +1,4 @@
 -- `realloc` meets its contract: the three steps are the rule's.
-use mathlib.Core.Path.{ap}
-use Rattle.words.specs.Runs.{copied}
 use Rattle.pool.specs.Blocks as blocks
 use borrow.Author.Needs.{needs}
 use Rattle.pool.proofs.blocks.realloc.Statement.{statement}

@@ -19,20 +19,20 @@ add-resize c = search needs
 resize-requires : tie.Need-resize-requires
 resize-requires c κs = rw (c .before .before .length-at .ensures) (c .before .before .before .before .before .before .before .pre .can, c .before .before .before .before .before .before .before .pre .inside, search needs)
 
-mul-at : tie.Need-mul-at
-mul-at c = search needs
+mul-end : tie.Need-mul-end
+mul-end c = search needs
 
-slice-read-at : tie.Need-slice-read-at
-slice-read-at c = search needs
+slice-read-end : tie.Need-slice-read-end
+slice-read-end c = search needs
 
-cast-at : tie.Need-cast-at
-cast-at c = search needs
+cast-end : tie.Need-cast-end
+cast-end c = search needs
 
-cast-at-2 : tie.Need-cast-at-2
-cast-at-2 c = search needs
+cast-end-2 : tie.Need-cast-end-2
+cast-end-2 c = search needs
 
-add-at : tie.Need-add-at
-add-at c = search needs
+add-end : tie.Need-add-end
+add-end c = search needs
 
 mul-pool : tie.Need-mul-pool
 mul-pool c = search needs
@@ -50,7 +50,11 @@ returns : tie.Need-returns
 returns c =
     let a = c .before .before .before .before .before .before .before .before .before .before .before .before .before .args in
     let g = c .before .before .before .before .before .resize in
-    rw (c .before .before .before .before .before .before .before .before .length-at .ensures) (push-seated (a .state) (a .pool .now) (a .handles .now) (a .slot) (a .element) (g .result) (g .last .1 .0) (g .last .1 .1 .0) (c .before .before .before .before .before .before .before .before .before .before .before .before .before .pre .inside) (rw (← c .before .before .before .before .before .before .before .before .length-at .ensures) (g .ensures .is)))
+    rw (c .before .before .before .before .before .before .before .before .length-at .ensures)
+    (record {
+      is = push-seated (a .state) (a .pool .now) (a .handles .now) (a .slot) (a .element) (g .result) (g .last .1 .0) (g .last .1 .1 .0) (c .before .before .before .before .before .before .before .before .before .before .before .before .before .pre .inside) (rw (← c .before .before .before .before .before .before .before .before .length-at .ensures) (g .ensures .is));
+      ends = rw (← c .before .before .before .before .before .before .before .before .length-at .ensures) (g .ensures .ends);
+    })
 
 pub push-done-spec : {M : Type 1} → statement M
 push-done-spec =
@@ -61,11 +65,11 @@ push-done-spec =
     length-at-requires
     add-resize
     resize-requires
-    mul-at
-    slice-read-at
-    cast-at
-    cast-at-2
-    add-at
+    mul-end
+    slice-read-end
+    cast-end
+    cast-end-2
+    add-end
     mul-pool
     slice-write-pool
     same-length

@@ -2,7 +2,6 @@
 use native.Mathlib.Omega.{arith}
 use mathlib.Core.Path.{_≡_, sym, _∙_}
 use Prim.Native.Nat.{ℕ}
-use borrow.Author.Tests.{not-true, not-false}
 use Rattle.pool.specs.Numbers.{_orElse_, given, entryNumber}
 use Rattle.pool.specs.Facts.{within-facts, entry-facts}
 use Rattle.pool.proofs.Tests.{tests}

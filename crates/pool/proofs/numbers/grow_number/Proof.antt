@@ -1,6 +1,6 @@
 -- `grow_number` meets its contract.
 use native.Mathlib.Omega.{arith}
-use mathlib.Core.Path.{_≡_, sym, _∙_}
+use mathlib.Core.Path.{sym, _∙_}
 use Rattle.pool.specs.Numbers.{_orElse_, stateOf}
 use Rattle.pool.specs.Rules.{growNumber}
 use Rattle.pool.specs.Facts.{ready}

@@ -1,6 +1,5 @@
 -- `room_number` meets its contract: 6 and 7 in their order.
 use native.Mathlib.Omega.{arith}
-use borrow.Author.Tests.{not-true, not-false}
 use Rattle.sizes.specs.Laws.{class-below}
 use Rattle.pool.specs.Numbers.{_orElse_, given, badHead, noRoom, roomNumber}
 use Rattle.pool.proofs.Tests.{tests}

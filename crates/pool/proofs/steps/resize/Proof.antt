@@ -1,13 +1,9 @@
-use Rattle.pool.specs.CallLaws.{seated-leaves}
 -- `resize` meets its contract: the list stays in its block, or moves.
+use Rattle.pool.specs.CallLaws.{seated-leaves}
 use native.Mathlib.Omega.{arith}
-use Prim.Native.Nat.{_+_, _-_, _≤_}
-use mathlib.Core.Path.{_≡_, sym, ap, _∙_}
-use mathlib.Core.Bool.{false}
+use Prim.Native.Nat.{_-_}
+use mathlib.Core.Path.{sym, _∙_}
 use borrow.Author.Tests.{not-true, not-false}
-use lib.ListN.{length, set}
-use lib.Seq.{getD-set-same}
-use Rattle.pool.specs.Numbers.{needsBlock}
 use Rattle.pool.specs.Blocks as blocks
 use Rattle.pool.specs.Steps.{taken}
 use Rattle.pool.specs.StepLaws.{stay-ends}

@@ -1,5 +1,5 @@
 -- `SizeClass::for_length` meets its contract: the code's `n | 3` is the definition's, with the sides exchanged.
-use mathlib.Core.Path.{_≡_, ap}
+use mathlib.Core.Path.{ap}
 use Prim.Native.Nat.{ℕ, _-_}
 use native.Mathlib.Omega.{arith}
 use lib.Bits.{or-comm}

@@ -1,0 +1,64 @@
+-- `cleared` meets its contract: nothing, or the block is freed.
+use native.Mathlib.Omega.{arith}
+use borrow.Author.Tests.{eq-eqb, ne-eqb}
+use Rattle.pool.specs.Rules.{cleared}
+use Rattle.pool.specs.StepLaws.{can-free}
+use borrow.Author.Needs.{needs}
+use Rattle.pool.proofs.steps.cleared.Statement.{statement}
+use Rattle.pool.proofs.steps.cleared.Tie as tie
+
+done-requires : tie.Need-done-requires
+done-requires c κs = search needs
+
+returns : tie.Need-returns
+unfolding cleared
+returns c = rw (eq-eqb (c .before .before .before .before .args .h) 0 (c .before .if1 .taken), c .done .ensures)
+
+sub-free : tie.Need-sub-free
+sub-free c = search needs
+
+for-length-requires : tie.Need-for-length-requires
+for-length-requires c κs = search needs
+
+free-requires : tie.Need-free-requires
+free-requires c κs =
+    let a = c .before .before .before .before .before .before .args in
+    let p = c .before .before .before .before .before .before .pre in
+    rw (c .for-length .ensures .is) (can-free _ (a .h) (a .len) (p .0) (p .0 .live (omega arith)) (p .1))
+
+mul-handles : tie.Need-mul-handles
+mul-handles c = search needs
+
+slice-write-handles : tie.Need-slice-write-handles
+slice-write-handles c = search needs
+
+done-requires-2 : tie.Need-done-requires-2
+done-requires-2 c κs = search needs
+
+same-length : tie.Need-same-length
+same-length c = search needs
+
+same-length-2 : tie.Need-same-length-2
+same-length-2 c = search needs
+
+returns-2 : tie.Need-returns-2
+unfolding cleared
+returns-2 c =
+    let a = c .before .before .before .before .before .before .before .before .before .before .args in
+    rw (c .done2 .ensures, ne-eqb (a .h) 0 (c .before .before .before .before .before .before .before .if1 .left), ← c .before .before .before .before .for-length .ensures .is, ← c .before .before .before .free .ensures (a .t1 .used))
+
+pub cleared-spec : {M : Type 1} → statement M
+cleared-spec =
+    tie.close
+    (tie.spec
+    done-requires
+    returns
+    sub-free
+    for-length-requires
+    free-requires
+    mul-handles
+    slice-write-handles
+    done-requires-2
+    same-length
+    same-length-2
+    returns-2)

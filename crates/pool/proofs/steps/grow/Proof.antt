@@ -1,0 +1,69 @@
+-- `grow` meets its contract: nothing is done where no element is left, else the list is resized.
+use native.Mathlib.Omega.{arith}
+use Prim.Native.Nat.{_+_}
+use borrow.Author.Tests.{eq-eqb, ne-eqb}
+use Rattle.pool.specs.Rules.{grown}
+use borrow.Author.Needs.{needs}
+use Rattle.pool.proofs.steps.grow.Statement.{statement}
+use Rattle.pool.proofs.steps.grow.Tie as tie
+
+mul-h : tie.Need-mul-h
+mul-h c = search needs
+
+slice-read-h : tie.Need-slice-read-h
+slice-read-h c = search needs
+
+length-at-requires : tie.Need-length-at-requires
+length-at-requires c κs = search needs
+
+cast-n : tie.Need-cast-n
+cast-n c = search needs
+
+add-n : tie.Need-add-n
+add-n c = search needs
+
+done-requires : tie.Need-done-requires
+done-requires c κs = search needs
+
+same-length : tie.Need-same-length
+same-length c = search needs
+
+returns : tie.Need-returns
+unfolding grown
+returns c =
+    let n = c .before .before .length-at .ensures in
+    let count = c .before .before .before .before .before .before .before .args .count in
+    record {
+      is = rw (← n, eq-eqb (c .before .before .length-at .result + count) 0 (c .before .if1 .taken), c .done .ensures);
+      ends = rw (← n, c .before .if1 .taken) (omega (arith, c .before .before .before .before .before .before .before .pre .can .list .below));
+    }
+
+resize-requires : tie.Need-resize-requires
+resize-requires c κs = rw (c .before .before .before .length-at .ensures) (c .before .before .before .before .before .before .before .before .pre .can, c .before .before .before .before .before .before .before .before .pre .inside, omega (arith, c .before .before .before .length-at .ensures))
+
+same-length-2 : tie.Need-same-length-2
+same-length-2 c = search needs
+
+same-length-3 : tie.Need-same-length-3
+same-length-3 c = search needs
+
+returns-2 : tie.Need-returns-2
+unfolding grown
+returns-2 c = rw (← c .before .before .before .before .before .before .before .before .length-at .ensures, ne-eqb (c .before .before .before .before .before .before .before .before .length-at .result + c .before .before .before .before .before .before .before .before .before .before .before .before .before .args .count) 0 (c .before .before .before .before .before .before .before .if1 .left)) (c .before .before .before .before .resize .ensures)
+
+pub grow-spec : {M : Type 1} → statement M
+grow-spec =
+    tie.close
+    (tie.spec
+    mul-h
+    slice-read-h
+    length-at-requires
+    cast-n
+    add-n
+    done-requires
+    same-length
+    returns
+    resize-requires
+    same-length-2
+    same-length-3
+    returns-2)

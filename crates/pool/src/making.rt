@@ -1,0 +1,96 @@
+// The calls that put a list into an empty slot.
+ghost use mathlib.Core.Path.{_≡_};
+ghost use Prim.Native.Nat.{_+_};
+ghost use lib.ListN.{length};
+ghost use Rattle.pool.specs.Rules as rules;
+ghost use Rattle.pool.specs.Rules.{called, lenOf, outcome};
+ghost use Rattle.pool.specs.Facts.{Entered};
+ghost use Rattle.pool.specs.Steps.{Ready};
+use super::Answer;
+use super::ListPool;
+use super::numbers;
+use super::steps;
+
+fn from_slice_done(
+    state: ListPool,
+    pool: &mut [u32],
+    handles: &mut [u32],
+    slot: usize,
+    elements: &[u32],
+) -> Answer
+    requires { ⌜ Ready state (now pool) (now handles) slot (lenOf (now pool) (now handles) slot + length (now elements)) ⌝ }
+    ensures { λ r. ⌜ outcome r (now (pool .exit)) (now (handles .exit)) ≡ rules.fromSliceDone state (now (pool .entry)) (now (handles .entry)) slot (now (elements .entry)) ⌝ }
+{
+    let answer = steps::grow(state, pool, handles, slot, elements.len());
+    let at = handles[slot] as usize;
+    words::store(pool, at, elements);
+    answer
+}
+
+fn deep_clone_done(
+    state: ListPool,
+    pool: &mut [u32],
+    handles: &mut [u32],
+    slot: usize,
+    to: usize,
+) -> Answer
+    requires { ⌜ (Entered (state .used) (now pool) (now handles) slot) × (Ready state (now pool) (now handles) to (lenOf (now pool) (now handles) to + lenOf (now pool) (now handles) slot)) ⌝ }
+    ensures { λ r. ⌜ outcome r (now (pool .exit)) (now (handles .exit)) ≡ rules.deepCloneDone state (now (pool .entry)) (now (handles .entry)) slot to ⌝ }
+{
+    let h = handles[slot];
+    let len = numbers::length_at(pool, h) as usize;
+    let answer = steps::grow(state, pool, handles, to, len);
+    let at = handles[to] as usize;
+    words::copy(pool, h as usize, at, len);
+    answer
+}
+
+impl ListPool {
+    // Puts a list of the elements into an empty slot.
+    pub fn from_slice(
+        self,
+        pool: &mut [u32],
+        handles: &mut [u32],
+        slot: usize,
+        elements: &[u32],
+    ) -> Answer
+        ensures { λ r. ⌜ outcome r (now (pool .exit)) (now (handles .exit)) ≡ called (rules.fromSlice slot (now (elements .entry))) self (now (pool .entry)) (now (handles .entry)) ⌝ }
+    {
+        let number = numbers::from_slice_number(
+            self.used,
+            &self.heads,
+            pool,
+            handles,
+            slot,
+            elements.len(),
+        );
+        if number != 0 {
+            return steps::refused(self, number);
+        }
+        from_slice_done(self, pool, handles, slot, elements)
+    }
+
+    // Puts a copy of the list in a slot into the empty slot `to`.
+    pub fn deep_clone(self, pool: &mut [u32], handles: &mut [u32], slot: usize, to: usize) -> Answer
+        ensures { λ r. ⌜ outcome r (now (pool .exit)) (now (handles .exit)) ≡ called (rules.deepClone slot to) self (now (pool .entry)) (now (handles .entry)) ⌝ }
+    {
+        let number = numbers::deep_clone_number(self.used, &self.heads, pool, handles, slot, to);
+        if number != 0 {
+            return steps::refused(self, number);
+        }
+        deep_clone_done(self, pool, handles, slot, to)
+    }
+
+    // Moves the list in a slot to the empty slot `to`.
+    pub fn take(self, pool: &[u32], handles: &mut [u32], slot: usize, to: usize) -> Answer
+        ensures { λ r. ⌜ outcome r (now (pool .entry)) (now (handles .exit)) ≡ called (rules.take slot to) self (now (pool .entry)) (now (handles .entry)) ⌝ }
+    {
+        let number = numbers::take_number(self.used, pool, handles, slot, to);
+        if number != 0 {
+            return steps::refused(self, number);
+        }
+        handles[to] = handles[slot];
+        handles[slot] = 0;
+        steps::done(self, 0)
+    }
+}

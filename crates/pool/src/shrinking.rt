@@ -1,0 +1,163 @@
+// The calls that make a list shorter or empty, and the pool's clear.
+ghost use mathlib.Core.Path.{_≡_};
+ghost use Prim.Native.Nat.{_-_, min};
+ghost use lib.ListN.{length, replicate};
+ghost use Rattle.pool.specs.Rules as rules;
+ghost use Rattle.pool.specs.Rules.{called, lenOf, outcome};
+ghost use Rattle.pool.specs.Facts.{Entered};
+ghost use Rattle.pool.specs.Steps.{HasAt, Ready};
+use super::Answer;
+use super::ListPool;
+use super::numbers;
+use super::steps;
+use sizes::SizeClass;
+
+fn clear_done(state: ListPool, pool: &mut [u32], handles: &mut [u32], slot: usize) -> Answer
+    requires { ⌜ Entered (state .used) (now pool) (now handles) slot ⌝ }
+    ensures { λ r. ⌜ outcome r (now (pool .exit)) (now (handles .exit)) ≡ rules.clearDone state (now (pool .entry)) (now (handles .entry)) slot ⌝ }
+{
+    let h = handles[slot];
+    let len = numbers::length_at(pool, h);
+    steps::cleared(state, pool, handles, slot, h, len)
+}
+
+fn remove_done(
+    state: ListPool,
+    pool: &mut [u32],
+    handles: &mut [u32],
+    slot: usize,
+    position: usize,
+) -> Answer
+    requires { ⌜ (HasAt (now pool) (now handles) slot position) × (Ready state (now pool) (now handles) slot (lenOf (now pool) (now handles) slot - 1)) ⌝ }
+    ensures { λ r. ⌜ outcome r (now (pool .exit)) (now (handles .exit)) ≡ rules.removeDone state (now (pool .entry)) (now (handles .entry)) slot position ⌝ }
+{
+    let h = handles[slot];
+    let len = numbers::length_at(pool, h);
+    let at = h as usize + position;
+    words::shift_down(pool, at + 1, at, len as usize - (position + 1));
+    steps::remove_last(state, pool, handles, slot, h, len)
+}
+
+fn swap_remove_done(
+    state: ListPool,
+    pool: &mut [u32],
+    handles: &mut [u32],
+    slot: usize,
+    position: usize,
+) -> Answer
+    requires { ⌜ (HasAt (now pool) (now handles) slot position) × (Ready state (now pool) (now handles) slot (lenOf (now pool) (now handles) slot - 1)) ⌝ }
+    ensures { λ r. ⌜ outcome r (now (pool .exit)) (now (handles .exit)) ≡ rules.swapRemoveDone state (now (pool .entry)) (now (handles .entry)) slot position ⌝ }
+{
+    let h = handles[slot];
+    let len = numbers::length_at(pool, h);
+    let at = h as usize + position;
+    let last = h as usize + (len as usize - 1);
+    let element = pool[at];
+    pool[at] = pool[last];
+    pool[last] = element;
+    steps::remove_last(state, pool, handles, slot, h, len)
+}
+
+fn truncate_done(
+    state: ListPool,
+    pool: &mut [u32],
+    handles: &mut [u32],
+    slot: usize,
+    n: usize,
+) -> Answer
+    requires { ⌜ (Entered (state .used) (now pool) (now handles) slot) × (Ready state (now pool) (now handles) slot (min (lenOf (now pool) (now handles) slot) n)) ⌝ }
+    ensures { λ r. ⌜ outcome r (now (pool .exit)) (now (handles .exit)) ≡ rules.truncateDone state (now (pool .entry)) (now (handles .entry)) slot n ⌝ }
+{
+    if n == 0 {
+        return clear_done(state, pool, handles, slot);
+    }
+    let h = handles[slot];
+    let len = numbers::length_at(pool, h);
+    if n >= len as usize {
+        return steps::done(state, 0);
+    }
+    steps::resize(state, pool, handles, slot, h, len, n as u32, 0)
+}
+
+// Every handle becomes 0.
+fn empty(handles: &mut [u32])
+    ensures { λ r. ⌜ now (handles .exit) ≡ replicate (length (now (handles .entry))) 0 ⌝ }
+{
+    let n = handles.len();
+    words::fill(handles, 0, n, 0);
+}
+
+impl ListPool {
+    // Removes all elements from the list in a slot, and gives its block back.
+    pub fn clear(self, pool: &mut [u32], handles: &mut [u32], slot: usize) -> Answer
+        ensures { λ r. ⌜ outcome r (now (pool .exit)) (now (handles .exit)) ≡ called (rules.clear slot) self (now (pool .entry)) (now (handles .entry)) ⌝ }
+    {
+        let number = numbers::entry_number(self.used, pool, handles, slot);
+        if number != 0 {
+            return steps::refused(self, number);
+        }
+        clear_done(self, pool, handles, slot)
+    }
+
+    // Removes the element at a position of the list in a slot; those behind it shift down.
+    pub fn remove(
+        self,
+        pool: &mut [u32],
+        handles: &mut [u32],
+        slot: usize,
+        position: usize,
+    ) -> Answer
+        ensures { λ r. ⌜ outcome r (now (pool .exit)) (now (handles .exit)) ≡ called (rules.remove slot position) self (now (pool .entry)) (now (handles .entry)) ⌝ }
+    {
+        let number = numbers::remove_number(self.used, &self.heads, pool, handles, slot, position);
+        if number != 0 {
+            return steps::refused(self, number);
+        }
+        remove_done(self, pool, handles, slot, position)
+    }
+
+    // Removes the element at a position of the list in a slot; the last takes its place.
+    pub fn swap_remove(
+        self,
+        pool: &mut [u32],
+        handles: &mut [u32],
+        slot: usize,
+        position: usize,
+    ) -> Answer
+        ensures { λ r. ⌜ outcome r (now (pool .exit)) (now (handles .exit)) ≡ called (rules.swapRemove slot position) self (now (pool .entry)) (now (handles .entry)) ⌝ }
+    {
+        let number = numbers::remove_number(self.used, &self.heads, pool, handles, slot, position);
+        if number != 0 {
+            return steps::refused(self, number);
+        }
+        swap_remove_done(self, pool, handles, slot, position)
+    }
+
+    // Shortens the list in a slot to n elements; does nothing where it has no more.
+    pub fn truncate(self, pool: &mut [u32], handles: &mut [u32], slot: usize, n: usize) -> Answer
+        ensures { λ r. ⌜ outcome r (now (pool .exit)) (now (handles .exit)) ≡ called (rules.truncate slot n) self (now (pool .entry)) (now (handles .entry)) ⌝ }
+    {
+        let number = numbers::truncate_number(self.used, &self.heads, pool, handles, slot, n);
+        if number != 0 {
+            return steps::refused(self, number);
+        }
+        truncate_done(self, pool, handles, slot, n)
+    }
+
+    // Clears the pool: nothing is used, no block is free, and every list is empty. No word of the pool is touched.
+    pub fn clear_pool(self, pool: &[u32], handles: &mut [u32]) -> Answer
+        ensures { λ r. ⌜ outcome r (now (pool .entry)) (now (handles .exit)) ≡ called (rules.clearPool) self (now (pool .entry)) (now (handles .entry)) ⌝ }
+    {
+        if numbers::too_long(pool.len(), handles.len()) {
+            return steps::refused(self, 1);
+        }
+        empty(handles);
+        steps::done(
+            ListPool {
+                used: 0,
+                heads: [0u32; SizeClass::COUNT],
+            },
+            0,
+        )
+    }
+}

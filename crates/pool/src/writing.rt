@@ -1,0 +1,46 @@
+// The calls that write to a list's elements and leave its length.
+ghost use mathlib.Core.Path.{_≡_};
+ghost use Rattle.pool.specs.Rules as rules;
+ghost use Rattle.pool.specs.Rules.{called, outcome};
+ghost use Rattle.pool.specs.Parts.{LiesIn};
+use super::Answer;
+use super::ListPool;
+use super::numbers;
+use super::steps;
+
+impl ListPool {
+    // The elements of the list in a slot, to be written: a part of the pool, empty where reading the list is refused.
+    pub fn as_mut_slice<'a>(
+        self,
+        pool: &'a mut [u32],
+        handles: &[u32],
+        slot: usize,
+    ) -> &'a mut [u32]
+        ensures { λ r. ⌜ LiesIn self (now (handles .entry)) slot (pool .entry) r ⌝ }
+    {
+        let part = self.part(pool, handles, slot);
+        let start = part.start;
+        let end = part.end;
+        &mut pool[start..end]
+    }
+
+    // Sets the element at a position of the list in a slot.
+    pub fn set(
+        self,
+        pool: &mut [u32],
+        handles: &[u32],
+        slot: usize,
+        position: usize,
+        element: u32,
+    ) -> Answer
+        ensures { λ r. ⌜ outcome r (now (pool .exit)) (now (handles .entry)) ≡ called (rules.setAt slot position element) self (now (pool .entry)) (now (handles .entry)) ⌝ }
+    {
+        let number = numbers::at_number(self.used, pool, handles, slot, position);
+        if number != 0 {
+            return steps::refused(self, number);
+        }
+        let at = handles[slot] as usize + position;
+        pool[at] = element;
+        steps::done(self, 0)
+    }
+}
