@@ -13,6 +13,7 @@ use sizes::SizeClass;
 
 mod blocks;
 mod growing;
+pub mod local;
 mod making;
 mod numbers;
 mod reading;

@@ -9,6 +9,7 @@ ghost use Rattle.pool.specs.Rules as rules;
 ghost use Rattle.pool.specs.Rules.{lenOf};
 ghost use Rattle.pool.specs.Facts.{Entered};
 ghost use Rattle.pool.specs.Steps.{CanCopy, Gives, HasAt, Ready};
+use super::local;
 use sizes::SizeClass;
 
 pub const POOL_LIMIT: usize = 65536;
@@ -25,46 +26,6 @@ pub fn length_at(pool: &[u32], h: u32) -> u32
     }
     let at = h as usize;
     pool[at - 1]
-}
-
-// Is a handle locally sound?
-fn sound_handle(used: usize, pool: &[u32], h: u32) -> bool
-    requires { ⌜ used ≤ length (now pool) ⌝ }
-    ensures { λ r. ⌜ r ≡ numbers.soundHandle used (now (pool .entry)) h ⌝ }
-{
-    if h == 0 {
-        return true;
-    }
-    if h % 4 != 1 {
-        return false;
-    }
-    let at = h as usize;
-    if at >= used {
-        return false;
-    }
-    let n = pool[at - 1];
-    if n < 1 {
-        return false;
-    }
-    at - 1 + SizeClass::size(SizeClass::for_length(n)) <= used
-}
-
-// Is a head of the class c locally sound?
-fn sound_head(used: usize, pool: &[u32], c: u32, h: u32) -> bool
-    requires { ⌜ (used ≤ length (now pool)) × (c ≤ 30) ⌝ }
-    ensures { λ r. ⌜ r ≡ numbers.soundHead used (now (pool .entry)) c h ⌝ }
-{
-    if h == 0 {
-        return true;
-    }
-    if h % 4 != 1 {
-        return false;
-    }
-    let at = h as usize;
-    if at - 1 + SizeClass::size(c) > used {
-        return false;
-    }
-    pool[at - 1] == 0
 }
 
 // Is the pool or the table over its limit?
@@ -100,7 +61,7 @@ pub fn entry_number(used: u32, pool: &[u32], handles: &[u32], slot: usize) -> u3
     if slot >= handles.len() {
         return 2;
     }
-    if !sound_handle(used as usize, pool, handles[slot]) {
+    if !local::sound_handle(used as usize, pool, handles[slot]) {
         return 3;
     }
     0
@@ -119,10 +80,10 @@ pub fn entry_number_2(used: u32, pool: &[u32], handles: &[u32], slot: usize, oth
     if other >= handles.len() {
         return 2;
     }
-    if !sound_handle(used as usize, pool, handles[slot]) {
+    if !local::sound_handle(used as usize, pool, handles[slot]) {
         return 3;
     }
-    if !sound_handle(used as usize, pool, handles[other]) {
+    if !local::sound_handle(used as usize, pool, handles[other]) {
         return 3;
     }
     0
@@ -155,7 +116,7 @@ fn room_number(used: u32, heads: &[u32; SizeClass::COUNT], pool: &[u32], n: u32)
     let c = SizeClass::for_length(n);
     let i = c as usize;
     let h = heads[i];
-    if !sound_head(used as usize, pool, c, h) {
+    if !local::sound_head(used as usize, pool, c, h) {
         return 6;
     }
     if h != 0 {

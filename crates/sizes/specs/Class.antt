@@ -1,7 +1,7 @@
 -- Size classes: word rule 1 of paper 01, the class of a length and the size of a class, with their limits.
 use mathlib.Core.Path.{_≡_}
 use mathlib.Core.Bool.{cond}
-use Prim.Native.Nat.{ℕ, _-_, _*_, _^_, _≤_}
+use Prim.Native.Nat.{ℕ, _-_, _*_, _^_, _≤_, _<_}
 use lib.Bits.{bitOr}
 use lib.Count.{leadingZeros}
 use lib.Dec.{ltb}
@@ -35,8 +35,8 @@ pub record ClassOf (n r : ℕ) : Type 0 where
   pub is : r ≡ classOf n
   pub most : r ≤ 30
 
--- the size of c, which is exact for those classes, and never so large that a sum with a 32-bit number wraps
+-- the size of c, which is exact as far as a 64-bit word goes, and never so large that a sum with a 32-bit number wraps
 pub record SizeOf (c r : ℕ) : Type 0 where
   pub is : r ≡ sizeWord c
-  pub exact : c ≤ 30 → r ≡ sizeOf c
+  pub exact : c < 62 → r ≡ sizeOf c
   pub most : r ≤ 2 ^ 63

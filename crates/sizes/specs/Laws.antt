@@ -34,10 +34,10 @@ pub size-fours : (c : ℕ) → sizeOf c % 4 ≡ 0
 unfolding sizeOf
 size-fours c = omega arith
 
--- the largest size that a 32-bit length can ask for
-pub size-top : {c : ℕ} → c ≤ 30 → sizeOf c ≤ 2 ^ 32
+-- from class 62 on no 64-bit word holds the size
+pub size-beyond : {c : ℕ} → 62 ≤ c → 2 ^ 64 ≤ sizeOf c
 unfolding sizeOf
-size-top h = size-mono h
+size-beyond h = size-mono h
 
 top-size : sizeOf 30 ≡ 2 ^ 32
 unfolding sizeOf

@@ -1,3 +1,4 @@
+use borrow.Author.Tests.{le-leb, le-ltb, lt-ltb, eq-eqb}
 -- `room_number` meets its contract: 6 and 7 in their order.
 use native.Mathlib.Omega.{arith}
 use Rattle.sizes.specs.Laws.{class-below}
@@ -42,11 +43,11 @@ add-if4 c = omega arith
 
 returns-4 : tie.Need-returns-4
 unfolding roomNumber badHead noRoom given _orElse_
-returns-4 c = search (tests, ← c .before .before .before .before .before .before .for-length .ensures .is, ← c .before .before .before .before .sound-head .ensures, c .before .before .before .if2 .left, ← c .before .size .ensures .exact (omega arith))
+returns-4 c = search (le-leb, le-ltb, lt-ltb, eq-eqb, ← c .before .before .before .before .before .before .for-length .ensures .is, ← c .before .before .before .before .sound-head .ensures, c .before .before .before .if2 .left, ← c .before .size .ensures .exact (omega arith))
 
 returns-5 : tie.Need-returns-5
 unfolding roomNumber badHead noRoom given _orElse_
-returns-5 c = search (tests, ← c .before .before .before .before .before .before .for-length .ensures .is, ← c .before .before .before .before .sound-head .ensures, c .before .before .before .if2 .left, ← c .before .size .ensures .exact (omega arith))
+returns-5 c = search (le-leb, le-ltb, eq-eqb, ← c .before .before .before .before .before .before .for-length .ensures .is, ← c .before .before .before .before .sound-head .ensures, c .before .before .before .if2 .left, ← c .before .size .ensures .exact (omega arith))
 
 pub room-number-spec : {M : Type 1} → statement M
 room-number-spec =

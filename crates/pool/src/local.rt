@@ -1,0 +1,51 @@
+// Local soundness, of a handle and of a head, on any words whatever.
+ghost use mathlib.Core.Path.{_≡_};
+ghost use Rattle.pool.specs.Numbers.{soundHandle, soundHead};
+use sizes::SizeClass;
+
+// Is a handle locally sound?
+pub fn sound_handle(used: usize, pool: &[u32], h: u32) -> bool
+    ensures { λ r. ⌜ r ≡ soundHandle used (now (pool .entry)) h ⌝ }
+{
+    if h == 0 {
+        return true;
+    }
+    if h % 4 != 1 {
+        return false;
+    }
+    let at = h as usize;
+    if at >= used {
+        return false;
+    }
+    if at > pool.len() {
+        return false;
+    }
+    let n = pool[at - 1];
+    if n < 1 {
+        return false;
+    }
+    at - 1 + SizeClass::size(SizeClass::for_length(n)) <= used
+}
+
+// Is a head of the class c locally sound?
+pub fn sound_head(used: usize, pool: &[u32], c: u32, h: u32) -> bool
+    ensures { λ r. ⌜ r ≡ soundHead used (now (pool .entry)) c h ⌝ }
+{
+    if h == 0 {
+        return true;
+    }
+    if h % 4 != 1 {
+        return false;
+    }
+    if c >= 62 {
+        return false;
+    }
+    let at = h as usize;
+    if at - 1 + SizeClass::size(c) > used {
+        return false;
+    }
+    if at > pool.len() {
+        return true;
+    }
+    pool[at - 1] == 0
+}

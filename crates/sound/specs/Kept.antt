@@ -1,0 +1,108 @@
+-- Every call keeps a sound pool sound, refusals too; it changes the lists that it names as plain sequences change, and no other list.
+use mathlib.Core.Path.{_≡_, refl, ap, _∙_}
+use mathlib.Core.Bool.{Bool, true, false, cond}
+use mathlib.Core.List.{List, []}
+use mathlib.Core.Logic.{_⊎_, inl, inr, ⊎-elim}
+use Prim.Native.Nat.{ℕ}
+use borrow.Author.Tests.{eqb-true, eqb-false}
+use lib.ListN.{length, set}
+use lib.Seq.{getD-set-other}
+use lib.Dec.{eqb}
+use Rattle.pool.specs.declared.ListPool.{ListPool}
+use Rattle.pool.specs.Rules.{Outcome, refused, isEmptyDone, lenDone, isValidDone, getDone, Call, fromSlice, isEmpty, len, isValid, get, first, setAt, deepClone, clear, take, push, extend, copyFrom, insert, remove, swapRemove, truncate, growAt, clearPool, numberOf, doneOf, unless, called}
+use Rattle.pool.specs.Facts.{Within}
+use Rattle.sound.specs.Sound.{Sound, lists, listAt, Holds, Leaves}
+use Rattle.sound.specs.Meant.{behind, meant, Target}
+use Rattle.sound.specs.Changes.{length-lists}
+use Rattle.sound.specs.Grow.{push-holds, extend-holds, from-slice-holds, insert-holds, grow-at-holds}
+use Rattle.sound.specs.Shrink.{clear-holds, remove-holds, swap-remove-holds, truncate-holds}
+use Rattle.sound.specs.Copy.{deep-clone-holds, copy-from-holds}
+use Rattle.sound.specs.Move.{set-holds, take-holds}
+use Rattle.sound.specs.Cleared.{clear-pool-holds}
+
+module _ {st : ListPool} {ws hs : List ℕ} {ls : List (List ℕ)} (P : Holds st ws hs ls) where
+  done-holds : (call : Call) → numberOf call st ws hs ≡ 0 → Leaves (doneOf call st ws hs) (meant (behind st ws hs) call ls)
+  unfolding meant doneOf isEmptyDone lenDone isValidDone getDone
+  done-holds (fromSlice slot xs) e = from-slice-holds P slot xs e
+  done-holds (isEmpty slot) e = P
+  done-holds (len slot) e = P
+  done-holds (isValid slot) e = P
+  done-holds (get slot p) e = P
+  done-holds (first slot) e = P
+  done-holds (setAt slot p x) e = set-holds P slot p x e
+  done-holds (deepClone slot to) e = deep-clone-holds P slot to e
+  done-holds (clear slot) e = clear-holds P slot e
+  done-holds (take slot to) e = take-holds P slot to e
+  done-holds (push slot x) e = push-holds P slot x e
+  done-holds (extend slot xs) e = extend-holds P slot xs e
+  done-holds (copyFrom slot source start end p) e = copy-from-holds P slot source start end p e
+  done-holds (insert slot p x) e = insert-holds P slot p x e
+  done-holds (remove slot p) e = remove-holds P slot p e
+  done-holds (swapRemove slot p) e = swap-remove-holds P slot p e
+  done-holds (truncate slot n) e = truncate-holds P slot n e
+  done-holds (growAt slot p count) e = grow-at-holds P slot p count e
+  done-holds clearPool e = rw (length-lists P) (clear-pool-holds st ws hs e)
+
+  -- a call is done, or it is refused and changes nothing
+  done-or-refused : (call : Call)
+      → Leaves (called call st ws hs) (meant (behind st ws hs) call ls)
+      ⊎ ((called call st ws hs .answer .number ≡ 0 → ⊥) × Leaves (called call st ws hs) ls)
+  unfolding called unless
+  done-or-refused call = go (eqb (numberOf call st ws hs) 0) refl
+    where
+      after : Bool → Outcome
+      after t = cond t (doneOf call st ws hs) (refused st ws hs (numberOf call st ws hs))
+
+      go : (t : Bool) → eqb (numberOf call st ws hs) 0 ≡ t → Leaves (after t) (meant (behind st ws hs) call ls) ⊎ ((after t .answer .number ≡ 0 → ⊥) × Leaves (after t) ls)
+      go true q = inl (done-holds call (eqb-true _ _ q))
+      go false q = inr (eqb-false _ _ q, P)
+
+  -- "from a sound state a call that answers 0 changes the lists it names as plain sequences change": one equation over the table of lists
+  pub lists-changed : (call : Call) → called call st ws hs .answer .number ≡ 0 → Leaves (called call st ws hs) (meant (behind st ws hs) call ls)
+  lists-changed call e = ⊎-elim (λ R. R) (λ R. absurd (R .0 e)) (done-or-refused call)
+
+-- where a call does not change the list in a slot
+other : (bs : ℕ → ℕ → List ℕ) (call : Call) (ls : List (List ℕ)) (k : ℕ) → (Target call k → ⊥) → listAt (meant bs call ls) k ≡ listAt ls k
+unfolding meant
+other bs (fromSlice slot xs) ls k q = getD-set-other ls slot k _ [] q
+other bs (isEmpty slot) ls k q = refl
+other bs (len slot) ls k q = refl
+other bs (isValid slot) ls k q = refl
+other bs (get slot p) ls k q = refl
+other bs (first slot) ls k q = refl
+other bs (setAt slot p x) ls k q = getD-set-other ls slot k _ [] q
+other bs (deepClone slot to) ls k q = getD-set-other ls to k _ [] q
+other bs (clear slot) ls k q = getD-set-other ls slot k _ [] q
+other bs (take slot to) ls k q =
+    getD-set-other (set ls to (listAt ls slot)) slot k [] [] (λ e. q (inl e)) ∙ getD-set-other ls to k (listAt ls slot) [] (λ e. q (inr e))
+other bs (push slot x) ls k q = getD-set-other ls slot k _ [] q
+other bs (extend slot xs) ls k q = getD-set-other ls slot k _ [] q
+other bs (copyFrom slot source start end p) ls k q = getD-set-other ls slot k _ [] q
+other bs (insert slot p x) ls k q = getD-set-other ls slot k _ [] q
+other bs (remove slot p) ls k q = getD-set-other ls slot k _ [] q
+other bs (swapRemove slot p) ls k q = getD-set-other ls slot k _ [] q
+other bs (truncate slot n) ls k q = getD-set-other ls slot k _ [] q
+other bs (growAt slot p count) ls k q = getD-set-other ls slot k _ [] q
+other bs clearPool ls k q = absurd (q tt)
+
+-- a sound pool within paper 01's limits, after a call
+abbrev pub Kept : Outcome → Type 0
+Kept o = Sound (o .answer .state) (o .words) (o .handles) × Within (o .answer .state .used) (length (o .words)) (length (o .handles))
+
+module _ {st : ListPool} {ws hs : List ℕ} (s : Sound st ws hs) (w : Within (st .used) (length ws) (length hs)) where
+  -- a sound pool holds its lists
+  pub its-lists : Holds st ws hs (lists ws hs)
+  its-lists = record { sound = s; within = w; are = refl }
+
+  -- "from a sound pool within 01's limits every call of 01 (all of them; refusals too ..) leaves a sound pool"
+  pub kept : (call : Call) → Kept (called call st ws hs)
+  kept call = ⊎-elim (λ R. (R .sound, R .within)) (λ R. (R .1 .sound, R .1 .within)) (done-or-refused its-lists call)
+
+  -- "and no other list": a call, done or refused, leaves the list in every slot that is no target of it
+  pub untouched : (call : Call) (slot : ℕ) → (Target call slot → ⊥)
+      → listAt (lists (called call st ws hs .words) (called call st ws hs .handles)) slot ≡ listAt (lists ws hs) slot
+  untouched call slot q =
+      ⊎-elim
+      (λ R. ap (λ (r : List (List ℕ)). listAt r slot) (R .are) ∙ other (behind st ws hs) call (lists ws hs) slot q)
+      (λ R. ap (λ (r : List (List ℕ)). listAt r slot) (R .1 .are))
+      (done-or-refused its-lists call)

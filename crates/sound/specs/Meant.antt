@@ -1,0 +1,70 @@
+-- What every call does to the lists of the table, as plain sequences, and which of them it changes: to be read and believed.
+use mathlib.Core.Path.{_≡_}
+use mathlib.Core.Bool.{cond}
+use mathlib.Core.List.{List, [], _∷_, _++_}
+use mathlib.Core.Logic.{_⊎_}
+use Prim.Native.Nat.{ℕ, _+_}
+use lib.ListN.{length, set, replicate, drop}
+use lib.ListN as plain
+use lib.Dec.{eqb}
+use Rattle.sizes.specs.Class.{classOf}
+use Rattle.pool.specs.declared.ListPool.{ListPool}
+use Rattle.pool.specs.Numbers.{headOf, handleAt, needsBlock}
+use Rattle.pool.specs.Blocks.{MAX}
+use Rattle.pool.specs.Rules.{lenOf, Call, fromSlice, isEmpty, len, isValid, get, first, setAt, deepClone, clear, take, push, extend, copyFrom, insert, remove, swapRemove, truncate, growAt, clearPool}
+use Rattle.sound.specs.Sound.{listAt}
+use Rattle.sound.specs.Sequences.{insertAll, openAt, removeAt, swapRemoveAt, range}
+
+-- "the opened places keep what stood there": what stands behind the list in a slot once it is grown by a count. Where no block is needed, what
+-- stood in its own block; else what stood in the block at the head of its new class, "its words untouched", or MAX in a new block, "all its words".
+unfoldable pub behind : ListPool → List ℕ → List ℕ → ℕ → ℕ → List ℕ
+behind st ws hs slot count =
+    let n = lenOf ws hs slot in
+    let h = headOf st (classOf (n + count)) in
+    cond (needsBlock n (n + count))
+    (cond (eqb h 0) (replicate count MAX) (plain.take count (drop (h + n) ws)))
+    (plain.take count (drop (handleAt hs slot + n) ws))
+
+-- What a call that answers 0 makes of the lists ls. Only `grow_at` asks what stands behind a list, bs.
+unfoldable pub meant : (ℕ → ℕ → List ℕ) → Call → List (List ℕ) → List (List ℕ)
+meant bs (fromSlice slot xs) ls = set ls slot xs
+meant bs (isEmpty slot) ls = ls
+meant bs (len slot) ls = ls
+meant bs (isValid slot) ls = ls
+meant bs (get slot p) ls = ls
+meant bs (first slot) ls = ls
+meant bs (setAt slot p x) ls = set ls slot (set (listAt ls slot) p x)
+meant bs (deepClone slot to) ls = set ls to (listAt ls slot)
+meant bs (clear slot) ls = set ls slot []
+meant bs (take slot to) ls = set (set ls to (listAt ls slot)) slot []
+meant bs (push slot x) ls = set ls slot (listAt ls slot ++ x ∷ [])
+meant bs (extend slot xs) ls = set ls slot (listAt ls slot ++ xs)
+meant bs (copyFrom slot source start end p) ls = set ls slot (insertAll p (range start end (listAt ls source)) (listAt ls slot))
+meant bs (insert slot p x) ls = set ls slot (insertAll p (x ∷ []) (listAt ls slot))
+meant bs (remove slot p) ls = set ls slot (removeAt p (listAt ls slot))
+meant bs (swapRemove slot p) ls = set ls slot (swapRemoveAt p (listAt ls slot))
+meant bs (truncate slot n) ls = set ls slot (plain.take n (listAt ls slot))
+meant bs (growAt slot p count) ls = set ls slot (openAt p (bs slot count) (listAt ls slot))
+meant bs clearPool ls = replicate (length ls) []
+
+-- The slots whose lists a call changes.
+abbrev pub Target : Call → ℕ → Type 0
+Target (fromSlice slot xs) k = k ≡ slot
+Target (isEmpty slot) k = ⊥
+Target (len slot) k = ⊥
+Target (isValid slot) k = ⊥
+Target (get slot p) k = ⊥
+Target (first slot) k = ⊥
+Target (setAt slot p x) k = k ≡ slot
+Target (deepClone slot to) k = k ≡ to
+Target (clear slot) k = k ≡ slot
+Target (take slot to) k = (k ≡ slot) ⊎ (k ≡ to)
+Target (push slot x) k = k ≡ slot
+Target (extend slot xs) k = k ≡ slot
+Target (copyFrom slot source start end p) k = k ≡ slot
+Target (insert slot p x) k = k ≡ slot
+Target (remove slot p) k = k ≡ slot
+Target (swapRemove slot p) k = k ≡ slot
+Target (truncate slot n) k = k ≡ slot
+Target (growAt slot p count) k = k ≡ slot
+Target clearPool k = Unit {0}

@@ -1,0 +1,190 @@
+-- What a call asks of the lists it names, by the plain sequences alone: the number that refuses it for its arguments, 2, 4 or 5, and the length
+-- that it gives a list. On a sound pool within the limits that number is the call's, and else that of the block for that length.
+use mathlib.Core.Path.{_≡_, refl, sym, ap, _∙_}
+use mathlib.Core.Bool.{Bool, true, false, cond, not, _&&_, _||_, and-false}
+use mathlib.Core.List.{List}
+use mathlib.Core.Logic.{_⊎_, inl, inr}
+use Prim.Native.Nat.{ℕ, _+_, _-_, _%_, _<_, min}
+use native.Mathlib.Nat.{eq-zero-or-pos}
+use native.Mathlib.Omega.{arith}
+use native.Mathlib.Decide.{decLt, ℕ-discrete}
+use borrow.Author.Tests.{eqb-true, eq-eqb, ne-eqb, le-ltb}
+use lib.ListN.{length, List·getD-eq-default}
+use lib.Dec.{eqb, leb, ltb}
+use Rattle.pool.specs.declared.ListPool.{ListPool}
+use Rattle.pool.specs.Numbers.{_orElse_, poolLimit, tableLimit, handleAt, given, tooLong, overLimit, entryNumber, entryNumber₂, needsBlock, needNumber}
+use Rattle.pool.specs.Rules.{Call, fromSlice, isEmpty, len, isValid, get, first, setAt, deepClone, clear, take, push, extend, copyFrom, insert, remove, swapRemove, truncate, growAt, clearPool, lenOf, numberOf, atNumber, takeNumber, growNumber, fromSliceNumber, deepCloneNumber, growAtNumber, copyFromNumber, removeNumber, truncateNumber, clearPoolNumber}
+use Rattle.pool.specs.Facts.{Within, handle-facts}
+use Rattle.sound.specs.Sound.{listAt, Holds}
+use Rattle.sound.specs.Held.{length-some}
+use Rattle.sound.specs.Meaning.{not-shared}
+use Rattle.sound.specs.Changes.{list-here, length-list, length-lists}
+
+-- a slot that is not in the table
+abbrev pub outside : List (List ℕ) → ℕ → Bool
+outside ls slot = leb (length ls) slot
+
+-- a list that has no elements
+abbrev pub empty : List (List ℕ) → ℕ → Bool
+empty ls slot = eqb (length (listAt ls slot)) 0
+
+-- The number that refuses a call for its arguments, where the lists are ls:
+-- 2 for a slot that is not in the table, 4 for a position or range outside the list, 5 where slots clash
+unfoldable pub refusal : Call → List (List ℕ) → ℕ
+refusal (fromSlice slot xs) ls = given 2 (outside ls slot) orElse given 5 (not (empty ls slot))
+refusal (isEmpty slot) ls = given 2 (outside ls slot)
+refusal (len slot) ls = given 2 (outside ls slot)
+refusal (isValid slot) ls = given 2 (outside ls slot)
+refusal (get slot position) ls = given 2 (outside ls slot) orElse given 4 (leb (length (listAt ls slot)) position)
+refusal (first slot) ls = given 2 (outside ls slot) orElse given 4 (leb (length (listAt ls slot)) 0)
+refusal (setAt slot position x) ls = given 2 (outside ls slot) orElse given 4 (leb (length (listAt ls slot)) position)
+refusal (deepClone slot other) ls = given 2 (outside ls slot || outside ls other) orElse given 5 (not (empty ls other))
+refusal (clear slot) ls = given 2 (outside ls slot)
+refusal (take slot other) ls = given 2 (outside ls slot || outside ls other) orElse given 5 (eqb slot other || not (empty ls other))
+refusal (push slot x) ls = given 2 (outside ls slot)
+refusal (extend slot xs) ls = given 2 (outside ls slot)
+refusal (copyFrom slot source start end position) ls =
+    given 2 (outside ls slot || outside ls source)
+    orElse given 4 (ltb (length (listAt ls slot)) position || ltb end start || ltb (length (listAt ls source)) end)
+    orElse given 5 (eqb slot source || (empty ls slot && empty ls source))
+refusal (insert slot position x) ls = given 2 (outside ls slot) orElse given 4 (ltb (length (listAt ls slot)) position)
+refusal (remove slot position) ls = given 2 (outside ls slot) orElse given 4 (leb (length (listAt ls slot)) position)
+refusal (swapRemove slot position) ls = given 2 (outside ls slot) orElse given 4 (leb (length (listAt ls slot)) position)
+refusal (truncate slot n) ls = given 2 (outside ls slot)
+refusal (growAt slot position count) ls = given 2 (outside ls slot) orElse given 4 (ltb (length (listAt ls slot)) position)
+refusal clearPool ls = 0
+
+-- a list of `old` elements gets `new` elements
+pub record Lengths : Type 0 where
+  pub old : ℕ
+  pub new : ℕ
+
+infix 3 _to_
+abbrev pub _to_ : ℕ → ℕ → Lengths
+a to b = record { old = a; new = b }
+
+-- What a call does to the length of a list, where the lists are ls. A call that makes no list longer or shorter has none to none.
+unfoldable pub lengths : Call → List (List ℕ) → Lengths
+lengths (fromSlice slot xs) ls = 0 to length xs
+lengths (isEmpty slot) ls = 0 to 0
+lengths (len slot) ls = 0 to 0
+lengths (isValid slot) ls = 0 to 0
+lengths (get slot position) ls = 0 to 0
+lengths (first slot) ls = 0 to 0
+lengths (setAt slot position x) ls = 0 to 0
+lengths (deepClone slot other) ls = 0 to length (listAt ls slot)
+lengths (clear slot) ls = length (listAt ls slot) to 0
+lengths (take slot other) ls = 0 to 0
+lengths (push slot x) ls = length (listAt ls slot) to length (listAt ls slot) + 1
+lengths (extend slot xs) ls = length (listAt ls slot) to length (listAt ls slot) + length xs
+lengths (copyFrom slot source start end position) ls = length (listAt ls slot) to length (listAt ls slot) + (end - start)
+lengths (insert slot position x) ls = length (listAt ls slot) to length (listAt ls slot) + 1
+lengths (remove slot position) ls = length (listAt ls slot) to length (listAt ls slot) - 1
+lengths (swapRemove slot position) ls = length (listAt ls slot) to length (listAt ls slot) - 1
+lengths (truncate slot n) ls = length (listAt ls slot) to min (length (listAt ls slot)) n
+lengths (growAt slot position count) ls = length (listAt ls slot) to length (listAt ls slot) + count
+lengths clearPool ls = 0 to 0
+
+-- within the limits 1 is not given
+within-short : {used pool table : ℕ} → Within used pool table → tooLong pool table ≡ false
+unfolding tooLong
+within-short {pool = pool} {table = table} W = rw (le-ltb poolLimit pool (W .pool-limit), le-ltb tableLimit table (W .table-limit))
+
+within-limits : {used pool table : ℕ} → Within used pool table → overLimit used pool table ≡ false
+unfolding overLimit
+within-limits {used} {pool} W = rw (within-short W, le-ltb pool used (W .below), eq-eqb (used % 4) 0 (W .fours))
+
+-- the first number that is not 0: with none behind it, and of three
+else-none : (a : ℕ) → (a orElse 0) ≡ a
+unfolding _orElse_
+else-none a = go (eqb a 0) refl
+  where
+    go : (t : Bool) → eqb a 0 ≡ t → cond t 0 a ≡ a
+    go true e = sym (eqb-true a 0 e)
+    go false e = refl
+
+else-assoc : (a b c : ℕ) → ((a orElse b) orElse c) ≡ (a orElse (b orElse c))
+unfolding _orElse_
+else-assoc a b c = go (eqb a 0) refl
+  where
+    go : (t : Bool) → eqb a 0 ≡ t → cond (eqb (cond t b a) 0) c (cond t b a) ≡ cond t (cond (eqb b 0) c b) a
+    go true e = refl
+    go false e = rw e
+
+module _ {st : ListPool} {ws hs : List ℕ} {ls : List (List ℕ)} (P : Holds st ws hs ls) where
+  -- of 1, 2 and 3 there is left 2
+  pub entry-is : (slot : ℕ) → entryNumber (st .used) ws hs slot ≡ given 2 (outside ls slot)
+  unfolding entryNumber given _orElse_
+  entry-is slot = rw (within-limits (P .within), P .sound .1 .handles slot, length-lists P) (else-none (given 2 (leb (length hs) slot)))
+
+  entry-is₂ : (slot other : ℕ) → entryNumber₂ (st .used) ws hs slot other ≡ given 2 (outside ls slot || outside ls other)
+  unfolding entryNumber₂ given _orElse_
+  entry-is₂ slot other =
+      rw (within-limits (P .within), P .sound .1 .handles slot, P .sound .1 .handles other, length-lists P)
+      (else-none (given 2 (leb (length hs) slot || leb (length hs) other)))
+
+  -- a handle is 0 just where the list has no elements
+  some-length : (slot : ℕ) → 0 < handleAt hs slot → 0 < lenOf ws hs slot
+  some-length slot p =
+      let f = handle-facts (st .used) ws (handleAt hs slot) (P .sound .1 .handles slot) p in
+      omega (arith, length-some ws (handleAt hs slot) p)
+
+  pub empty-is : (slot : ℕ) → eqb (handleAt hs slot) 0 ≡ empty ls slot
+  empty-is slot = rw (length-list P slot) (go (eq-zero-or-pos (handleAt hs slot)))
+    where
+      go : (handleAt hs slot ≡ 0) ⊎ (0 < handleAt hs slot) → eqb (handleAt hs slot) 0 ≡ eqb (lenOf ws hs slot) 0
+      go (inl z) = rw (eq-eqb (handleAt hs slot) 0 z, eq-eqb (lenOf ws hs slot) 0 (list-here P slot .none z))
+      go (inr p) = rw (ne-eqb (handleAt hs slot) 0 (omega arith), ne-eqb (lenOf ws hs slot) 0 (omega (arith, some-length slot p)))
+
+  inside : (slot : ℕ) → 0 < handleAt hs slot → slot < length hs
+  inside slot p = go (decLt slot (length hs))
+    where
+      go : Dec (slot < length hs) → slot < length hs
+      go (yes l) = l
+      go (no q) = absurd (omega (arith, List·getD-eq-default hs 0 {n = slot} (omega arith)))
+
+  -- and two handles are equal just where they are one slot's, or both 0
+  clash-is : (slot other : ℕ) → eqb (handleAt hs slot) (handleAt hs other) ≡ (eqb slot other || (empty ls slot && empty ls other))
+  clash-is slot other = rw (← (empty-is slot), ← (empty-is other)) (go (ℕ-discrete slot other) (eq-zero-or-pos (handleAt hs slot)) (eq-zero-or-pos (handleAt hs other)))
+    where
+      h : ℕ
+      h = handleAt hs slot
+
+      k : ℕ
+      k = handleAt hs other
+
+      go : Dec (slot ≡ other) → (h ≡ 0) ⊎ (0 < h) → (k ≡ 0) ⊎ (0 < k) → eqb h k ≡ (eqb slot other || (eqb h 0 && eqb k 0))
+      go (yes e) d f = rw (eq-eqb slot other e, eq-eqb h k (ap (handleAt hs) e))
+      go (no ne) (inl z) (inl y) = rw (ne-eqb slot other ne, eq-eqb h k (omega arith), eq-eqb h 0 z, eq-eqb k 0 y)
+      go (no ne) (inl z) (inr q) = rw (ne-eqb slot other ne, ne-eqb h k (omega arith), ne-eqb k 0 (omega arith)) (sym (and-false (eqb h 0)))
+      go (no ne) (inr p) (inl y) = rw (ne-eqb slot other ne, ne-eqb h k (omega arith), ne-eqb h 0 (omega arith))
+      go (no ne) (inr p) (inr q) =
+          rw (ne-eqb slot other ne, ne-eqb h k (not-shared (P .sound) slot other ne (inside slot p) (inside other q) (omega arith)), ne-eqb h 0 (omega arith))
+
+  within-clear : clearPoolNumber st ws hs ≡ 0
+  unfolding clearPoolNumber given
+  within-clear = rw (within-short (P .within))
+
+  -- The number of a call is that which its arguments have on the plain lists, or else that of the block for the length that it gives a list.
+  pub number-is : (call : Call) → numberOf call st ws hs ≡ (refusal call ls orElse needNumber st ws (lengths call ls .old) (lengths call ls .new))
+  unfolding numberOf refusal lengths needNumber needsBlock atNumber takeNumber growNumber fromSliceNumber deepCloneNumber growAtNumber copyFromNumber removeNumber truncateNumber
+  number-is (fromSlice slot xs) = rw (entry-is slot, empty-is slot, else-assoc)
+  number-is (isEmpty slot) = rw (entry-is slot, else-none)
+  number-is (len slot) = rw (entry-is slot, else-none)
+  number-is (isValid slot) = rw (entry-is slot, else-none)
+  number-is (get slot position) = rw (entry-is slot, length-list P slot, else-none)
+  number-is (first slot) = rw (entry-is slot, length-list P slot, else-none)
+  number-is (setAt slot position x) = rw (entry-is slot, length-list P slot, else-none)
+  number-is (deepClone slot other) = rw (entry-is₂ slot other, empty-is other, length-list P slot, else-assoc)
+  number-is (clear slot) = rw (entry-is slot, else-none)
+  number-is (take slot other) = rw (entry-is₂ slot other, empty-is other, else-none)
+  number-is (push slot x) = rw (entry-is slot, length-list P slot)
+  number-is (extend slot xs) = rw (entry-is slot, length-list P slot)
+  number-is (copyFrom slot source start end position) =
+      rw (entry-is₂ slot source, clash-is slot source, length-list P slot, length-list P source, else-assoc, else-assoc)
+  number-is (insert slot position x) = rw (entry-is slot, length-list P slot, else-assoc)
+  number-is (remove slot position) = rw (entry-is slot, length-list P slot)
+  number-is (swapRemove slot position) = rw (entry-is slot, length-list P slot)
+  number-is (truncate slot n) = rw (entry-is slot, length-list P slot)
+  number-is (growAt slot position count) = rw (entry-is slot, length-list P slot, else-assoc)
+  number-is clearPool = within-clear ∙ sym (else-none 0)

@@ -1,0 +1,33 @@
+-- Any sequence of calls from a cleared pool, with writes to list elements in between by anybody, ends sound.
+use mathlib.Core.List.{List}
+use Prim.Native.Nat.{ℕ, _+_, _≤_, _<_}
+use lib.ListN.{length, set}
+use Rattle.pool.specs.declared.ListPool.{ListPool}
+use Rattle.pool.specs.declared.Part.{Part}
+use Rattle.pool.specs.Numbers.{poolLimit, tableLimit}
+use Rattle.pool.specs.Rules.{Outcome, outcome, part, Call, clearPool, called}
+use Rattle.sound.specs.Cleared.{cleared-holds}
+use Rattle.sound.specs.Move.{write-holds}
+use Rattle.sound.specs.Kept.{Kept, its-lists, kept}
+
+-- the part of the pool that `as_mut_slice` gives of a slot, after a call
+abbrev pub partOf : Outcome → ℕ → Part
+partOf o slot = part (o .answer .state) (o .words) (o .handles) slot
+
+-- What is reached from a cleared pool: the words, the table and the state before the clearing may be anything within the limits.
+-- Each call is given what the last left, whatever that answered.
+pub data Reached : Outcome → Type 0 where
+  start : (st : ListPool) (ws hs : List ℕ) → length ws ≤ poolLimit → length hs ≤ tableLimit → Reached (called clearPool st ws hs)
+  step : {o : Outcome} (call : Call) → Reached o → Reached (called call (o .answer .state) (o .words) (o .handles))
+  -- anybody writes x at the position p of such a part
+  write : {o : Outcome} (slot p x : ℕ) → Reached o → partOf o slot .start + p < partOf o slot .end
+      → Reached (outcome (o .answer) (set (o .words) (partOf o slot .start + p) x) (o .handles))
+
+-- "any sequence of calls from a cleared pool, each given what the last left, with writes to list elements in between by anybody, ends sound"
+pub reached-sound : {o : Outcome} → Reached o → Kept o
+reached-sound (start st ws hs pool table) = let H = cleared-holds st ws hs pool table in (H .sound, H .within)
+reached-sound (step call r) = let (s, w) = reached-sound r in kept s w call
+reached-sound (write slot p x r before) =
+    let (s, w) = reached-sound r in
+    let H = write-holds (its-lists s w) slot p x before in
+    (H .sound, H .within)

@@ -1,0 +1,121 @@
+-- The calls that make a list shorter: each leaves a sound pool, and changes the lists of the table as one equation says.
+use mathlib.Core.Path.{_≡_, refl, sym, _∙_}
+use mathlib.Core.Bool.{Bool, true, false, cond}
+use mathlib.Core.List.{List, [], _∷_}
+use Prim.Native.Nat.{ℕ, _+_, _-_, _<_, min}
+use native.Mathlib.Nat.{add-assoc}
+use native.Mathlib.Omega.{arith}
+use borrow.Author.Tests.{eqb-true, eqb-false, leb-true, leb-false}
+use lib.ListN.{length, getD, set, take, drop, length-set}
+use lib.Seq.{length-sets, take-all, take-set-le}
+use lib.Dec.{eqb, leb}
+use Rattle.words.specs.Runs.{copied}
+use Rattle.words.specs.RunLaws.{length-take-drop}
+use Rattle.pool.specs.declared.ListPool.{ListPool}
+use Rattle.pool.specs.Numbers.{handleAt}
+use Rattle.pool.specs.Blocks.{moved}
+use Rattle.pool.specs.Rules.{lenOf, done, seated, cleared, lastRemoved, clear, remove, swapRemove, truncate, numberOf, doneOf, atNumber, clearDone, removeNumber, removeDone, swapRemoveDone, truncateNumber, truncateDone}
+use Rattle.pool.specs.Steps.{Ready}
+use Rattle.pool.specs.Facts.{Entered, given-zero, else-first, else-second, entry-facts, ready}
+use Rattle.sound.specs.Sound.{listAt, Holds, Leaves}
+use Rattle.sound.specs.Changes.{Has, Left, has, has-length, has-at, has-part, written, shrunk, emptied}
+use Rattle.sound.specs.Sequences.{removeAt, swapRemoveAt}
+use Rattle.sound.specs.SequenceLaws.{take-shift}
+
+-- the last element goes from a list whose elements may have been written since the entry, where the words were ws
+module _ {st : ListPool} {vs hs : List ℕ} {ls : List (List ℕ)} {slot : ℕ} {l : List ℕ} (L : Has st vs hs ls slot l) (ws : List ℕ) where
+  dropped : length vs ≡ length ws → length l ≡ lenOf ws hs slot → 0 < length l → Ready st ws hs slot (lenOf ws hs slot - 1)
+      → Left (lastRemoved st vs hs slot (handleAt hs slot) (lenOf ws hs slot)) ls slot (take (length l - 1) l)
+  unfolding lastRemoved
+  dropped long k p r = rw (← same) (go (eqb (lenOf vs hs slot) 1) refl)
+    where
+      n : ℕ
+      n = lenOf vs hs slot
+
+      same : n ≡ lenOf ws hs slot
+      same = sym (has-length L) ∙ k
+
+      go : (t : Bool) → eqb n 1 ≡ t
+          → Left (cond t (cleared st vs hs slot (handleAt hs slot) n) (seated 0 (moved st vs (handleAt hs slot) n (n - 1)) hs slot (n - 1))) ls slot (take (length l - 1) l)
+      go true e =
+          let none : length l - 1 ≡ 0 = omega (arith, has-length L, eqb-true n 1 e) in
+          rw none (emptied L)
+      go false e =
+          let more : (n ≡ 1) → ⊥ = eqb-false n 1 e in
+          let d = has-length L in
+          let again : Ready st vs hs slot (n - 1) = record { inside = r .inside; can = rw (long, same) (r .can) } in
+          rw (has-length L) (shrunk L (n - 1) again (omega arith) (omega arith))
+
+module _ {st : ListPool} {ws hs : List ℕ} {ls : List (List ℕ)} (P : Holds st ws hs ls) where
+  -- "empty"
+  pub clear-holds : (slot : ℕ) → numberOf (clear slot) st ws hs ≡ 0 → Leaves (doneOf (clear slot) st ws hs) (set ls slot [])
+  unfolding numberOf doneOf clearDone
+  clear-holds slot e = emptied (has slot P (entry-facts (st .used) ws hs slot e .inside)) .holds
+
+  -- a position in the list
+  pub at-facts : (slot p : ℕ) → atNumber (st .used) ws hs slot p ≡ 0 → (Entered (st .used) ws hs slot) × (p < lenOf ws hs slot)
+  unfolding atNumber
+  at-facts slot p e = (entry-facts (st .used) ws hs slot (else-first _ _ e), leb-false _ _ (given-zero 4 _ (omega arith) (else-second _ _ e)))
+
+  remove-ready : (slot p : ℕ) → removeNumber st ws hs slot p ≡ 0 → (Ready st ws hs slot (lenOf ws hs slot - 1)) × (p < lenOf ws hs slot)
+  unfolding removeNumber
+  remove-ready slot p e =
+      let f = at-facts slot p (else-first _ _ e) in
+      (ready st ws hs slot (lenOf ws hs slot - 1) (f .0) (else-second _ _ e), f .1)
+
+  -- "remove at"
+  pub remove-holds : (slot p : ℕ) → numberOf (remove slot p) st ws hs ≡ 0
+      → Leaves (doneOf (remove slot p) st ws hs) (set ls slot (removeAt p (listAt ls slot)))
+  unfolding numberOf doneOf removeDone copied
+  remove-holds slot p e =
+      let (r, before) = remove-ready slot p e in
+      let L = has slot P (r .inside) in
+      let l = listAt ls slot in
+      let n = has-length L in
+      let vs = take (length l - (p + 1)) (drop (p + 1) l) in
+      let k = length-take-drop l (p + 1) (length l - (p + 1)) (omega arith) in
+      let long = length-sets l p vs in
+      let D = dropped (written L p vs (omega arith)) ws (length-sets ws (handleAt hs slot + p) vs) (long ∙ n) (omega arith) r in
+      let read : take (lenOf ws hs slot - (p + 1)) (drop (handleAt hs slot + p + 1) ws) ≡ vs =
+      rw (← n, add-assoc (handleAt hs slot) p 1) (has-part L (p + 1) (length l - (p + 1)) (omega arith)) in
+      rw (read, ← (take-shift l p (omega arith))) (rw long at (D .holds))
+
+  -- "swap with the last and drop"
+  pub swap-remove-holds : (slot p : ℕ) → numberOf (swapRemove slot p) st ws hs ≡ 0
+      → Leaves (doneOf (swapRemove slot p) st ws hs) (set ls slot (swapRemoveAt p (listAt ls slot)))
+  unfolding numberOf doneOf swapRemoveDone swapRemoveAt
+  swap-remove-holds slot p e =
+      let (r, before) = remove-ready slot p e in
+      let L = has slot P (r .inside) in
+      let l = listAt ls slot in
+      let h = handleAt hs slot in
+      let n = has-length L in
+      let x = getD ws (h + (lenOf ws hs slot - 1)) 0 in
+      let y = getD ws (h + p) 0 in
+      let W = written (written L p (x ∷ []) (omega arith)) (length l - 1) (y ∷ []) (rw length-set (omega arith)) in
+      let long : length (set (set l p x) (length l - 1) y) ≡ length l = simp length-set in
+      let D = dropped W ws (simp length-set) (long ∙ n) (omega arith) r in
+      let last : x ≡ getD l (length l - 1) 0 = rw (← n) (has-at L (length l - 1) (omega arith)) in
+      rw (← last, ← (take-set-le (length l - 1) (set l p x) (length l - 1) y (omega arith)), n) (rw (long, n) at (D .holds))
+
+  -- "take the first n"
+  pub truncate-holds : (slot n : ℕ) → numberOf (truncate slot n) st ws hs ≡ 0
+      → Leaves (doneOf (truncate slot n) st ws hs) (set ls slot (take n (listAt ls slot)))
+  unfolding numberOf doneOf truncateNumber truncateDone clearDone
+  truncate-holds slot n e = go (eqb n 0) refl (leb (lenOf ws hs slot) n) refl .holds
+    where
+      f : Entered (st .used) ws hs slot
+      f = entry-facts (st .used) ws hs slot (else-first _ _ e)
+
+      L : Has st ws hs ls slot (listAt ls slot)
+      L = has slot P (f .inside)
+
+      go : (t : Bool) → eqb n 0 ≡ t → (u : Bool) → leb (lenOf ws hs slot) n ≡ u
+          → Left (cond t (cleared st ws hs slot (handleAt hs slot) (lenOf ws hs slot)) (cond u (done 0 st ws hs) (seated 0 (moved st ws (handleAt hs slot) (lenOf ws hs slot) n) hs slot n))) ls slot (take n (listAt ls slot))
+      go true z u q = rw (eqb-true n 0 z) (emptied L)
+      go false z true q = rw (take-all n (listAt ls slot) (omega (arith, has-length L, leb-true (lenOf ws hs slot) n q))) L
+      go false z false q =
+          let some : (n ≡ 0) → ⊥ = eqb-false n 0 z in
+          let less : n < lenOf ws hs slot = leb-false _ _ q in
+          let m : min (lenOf ws hs slot) n ≡ n = omega arith in
+          shrunk L n (ready st ws hs slot n f (rw m at (else-second _ _ e))) (omega arith) (omega (arith, has-length L))
