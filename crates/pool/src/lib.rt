@@ -12,8 +12,8 @@
 use sizes::SizeClass;
 
 mod blocks;
+pub mod checks;
 mod growing;
-pub mod local;
 mod making;
 mod numbers;
 mod reading;

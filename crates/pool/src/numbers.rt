@@ -9,12 +9,8 @@ ghost use Rattle.pool.specs.Rules as rules;
 ghost use Rattle.pool.specs.Rules.{lenOf};
 ghost use Rattle.pool.specs.Facts.{Entered};
 ghost use Rattle.pool.specs.Steps.{CanCopy, Gives, HasAt, Ready};
-use super::local;
+use super::checks;
 use sizes::SizeClass;
-
-pub const POOL_LIMIT: usize = 65536;
-
-pub const TABLE_LIMIT: usize = 16384;
 
 // The length that stands before a handle; 0 for the empty list.
 pub fn length_at(pool: &[u32], h: u32) -> u32
@@ -28,40 +24,17 @@ pub fn length_at(pool: &[u32], h: u32) -> u32
     pool[at - 1]
 }
 
-// Is the pool or the table over its limit?
-pub fn too_long(pool: usize, table: usize) -> bool
-    ensures { λ r. ⌜ r ≡ numbers.tooLong pool table ⌝ }
-{
-    if pool > POOL_LIMIT {
-        return true;
-    }
-    table > TABLE_LIMIT
-}
-
-// Is a limit passed?
-fn over_limit(used: u32, pool: usize, table: usize) -> bool
-    ensures { λ r. ⌜ r ≡ numbers.overLimit used pool table ⌝ }
-{
-    if too_long(pool, table) {
-        return true;
-    }
-    if used as usize > pool {
-        return true;
-    }
-    used % 4 != 0
-}
-
 // 1, 2, 3 or 0 for a call that names the list in a slot.
 pub fn entry_number(used: u32, pool: &[u32], handles: &[u32], slot: usize) -> u32
     ensures { λ r. ⌜ Gives (numbers.entryNumber used (now (pool .entry)) (now (handles .entry)) slot) (Entered used (now (pool .entry)) (now (handles .entry)) slot) r ⌝ }
 {
-    if over_limit(used, pool.len(), handles.len()) {
+    if checks::over_limit(used, pool.len(), handles.len()) {
         return 1;
     }
     if slot >= handles.len() {
         return 2;
     }
-    if !local::sound_handle(used as usize, pool, handles[slot]) {
+    if !checks::sound_handle(used as usize, pool, handles[slot]) {
         return 3;
     }
     0
@@ -71,7 +44,7 @@ pub fn entry_number(used: u32, pool: &[u32], handles: &[u32], slot: usize) -> u3
 pub fn entry_number_2(used: u32, pool: &[u32], handles: &[u32], slot: usize, other: usize) -> u32
     ensures { λ r. ⌜ Gives (numbers.entryNumber₂ used (now (pool .entry)) (now (handles .entry)) slot other) ((Entered used (now (pool .entry)) (now (handles .entry)) slot) × (Entered used (now (pool .entry)) (now (handles .entry)) other)) r ⌝ }
 {
-    if over_limit(used, pool.len(), handles.len()) {
+    if checks::over_limit(used, pool.len(), handles.len()) {
         return 1;
     }
     if slot >= handles.len() {
@@ -80,10 +53,10 @@ pub fn entry_number_2(used: u32, pool: &[u32], handles: &[u32], slot: usize, oth
     if other >= handles.len() {
         return 2;
     }
-    if !local::sound_handle(used as usize, pool, handles[slot]) {
+    if !checks::sound_handle(used as usize, pool, handles[slot]) {
         return 3;
     }
-    if !local::sound_handle(used as usize, pool, handles[other]) {
+    if !checks::sound_handle(used as usize, pool, handles[other]) {
         return 3;
     }
     0
@@ -116,7 +89,7 @@ fn room_number(used: u32, heads: &[u32; SizeClass::COUNT], pool: &[u32], n: u32)
     let c = SizeClass::for_length(n);
     let i = c as usize;
     let h = heads[i];
-    if !local::sound_head(used as usize, pool, c, h) {
+    if !checks::sound_head(used as usize, pool, c, h) {
         return 6;
     }
     if h != 0 {

@@ -32,7 +32,8 @@ impl ListPool {
         if number != 0 {
             return steps::refused(self, number);
         }
-        steps::done(self, numbers::length_at(pool, handles[slot]))
+        let len = numbers::length_at(pool, handles[slot]);
+        steps::done(self, len)
     }
 
     // Is the list in a slot valid? The value is 1, and a handle that is not locally sound is refused.

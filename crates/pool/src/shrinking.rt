@@ -8,6 +8,7 @@ ghost use Rattle.pool.specs.Facts.{Entered};
 ghost use Rattle.pool.specs.Steps.{HasAt, Ready};
 use super::Answer;
 use super::ListPool;
+use super::checks;
 use super::numbers;
 use super::steps;
 use sizes::SizeClass;
@@ -148,7 +149,7 @@ impl ListPool {
     pub fn clear_pool(self, pool: &[u32], handles: &mut [u32]) -> Answer
         ensures { λ r. ⌜ outcome r (now (pool .entry)) (now (handles .exit)) ≡ called (rules.clearPool) self (now (pool .entry)) (now (handles .entry)) ⌝ }
     {
-        if numbers::too_long(pool.len(), handles.len()) {
+        if checks::too_long(pool.len(), handles.len()) {
             return steps::refused(self, 1);
         }
         empty(handles);

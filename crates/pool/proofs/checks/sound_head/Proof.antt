@@ -8,8 +8,8 @@ use Rattle.sizes.specs.Laws.{size-beyond}
 use Rattle.pool.specs.Numbers.{soundHead}
 use Rattle.pool.proofs.Tests.{tests}
 use borrow.Author.Needs.{needs}
-use Rattle.pool.proofs.local.sound_head.Statement.{statement}
-use Rattle.pool.proofs.local.sound_head.Tie as tie
+use Rattle.pool.proofs.checks.sound_head.Statement.{statement}
+use Rattle.pool.proofs.checks.sound_head.Tie as tie
 
 returns : tie.Need-returns
 unfolding soundHead

@@ -1,8 +1,8 @@
 -- `too_long` meets its contract.
 use Rattle.pool.specs.Numbers.{tooLong}
 use Rattle.pool.proofs.Tests.{tests}
-use Rattle.pool.proofs.numbers.too_long.Statement.{statement}
-use Rattle.pool.proofs.numbers.too_long.Tie as tie
+use Rattle.pool.proofs.checks.too_long.Statement.{statement}
+use Rattle.pool.proofs.checks.too_long.Tie as tie
 
 returns : tie.Need-returns
 unfolding tooLong

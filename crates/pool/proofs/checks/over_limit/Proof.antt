@@ -2,8 +2,8 @@
 use borrow.Author.Needs.{needs}
 use Rattle.pool.specs.Numbers.{overLimit}
 use Rattle.pool.proofs.Tests.{tests}
-use Rattle.pool.proofs.numbers.over_limit.Statement.{statement}
-use Rattle.pool.proofs.numbers.over_limit.Tie as tie
+use Rattle.pool.proofs.checks.over_limit.Statement.{statement}
+use Rattle.pool.proofs.checks.over_limit.Tie as tie
 
 too-long-requires : tie.Need-too-long-requires
 too-long-requires c κs = search needs

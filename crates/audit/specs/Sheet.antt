@@ -3,11 +3,12 @@ use Prim.Native.Nat.{ℕ}
 use mathlib.Core.Path.{_≡_, refl}
 use mathlib.Core.List.{List, [], _∷_, _++_, map}
 use lib.ListN.{set, take, drop, replicate}
-use Rattle.sizes.specs.Class.{classCount, classOf, sizeOf}
+use Rattle.sizes.specs.Class.{classCount, classOf, sizeOf, sizeWord}
 use Rattle.words.specs.Runs.{filled, copied, stored}
 use Rattle.pool.specs.Numbers.{_orElse_, stateOf, handleAt, lengthAt, soundHandle, soundHead, given, tooLong, overLimit, entryNumber, entryNumber₂, badHead, noRoom, roomNumber, needsBlock, needNumber}
 use Rattle.pool.specs.Blocks.{MAX, recycled, fresh, alloc, free, realloc, moved}
+use Rattle.audit.specs.Audit.{Audited, audit, auditNumber, verdict, accepted, swept, groupsAt, classAt, chainsMarked, chainMarked, handlesMarked, andThen, marked}
 use Rattle.pool.specs.Rules.{Outcome, done, refused, Call, push, extend, remove, truncate, growAt, called, unless, numberOf, doneOf, atNumber, pushDone, cleared, clearDone, lastRemoved, grown, opened, growNumber, extendDone, growAtNumber, growAtDone, removeNumber, removeDone, truncateNumber, truncateDone}
 
 -- "One 16-word cleared pool, three slots": n words and three slots, cleared
 unfoldable pub clearedPool : ℕ → Outcome
@@ -23,18 +24,27 @@ after o (call ∷ calls) = after (called call (o .answer .state) (o .words) (o .
 unfoldable pub listAt : Outcome → ℕ → List ℕ
 listAt o slot = let h = handleAt (o .handles) slot in take (lengthAt (o .words) h) (drop h (o .words))
 
--- A row: after these calls in a cleared pool of n words, this is the outcome of the last; or this list is in slot 0;
--- or these lengths have these classes.
+-- A row: after these calls in a cleared pool of n words, this is the outcome of the last; or this list is in slot 0; or the audit, with a slot
+-- set to a handle before and a map of four words, gives this number and map; or these lengths have these classes.
 pub data Row : Type 0 where
   outcomes : ℕ → List Call → Outcome → Row
   lists : ℕ → List Call → List ℕ → Row
+  audits : ℕ → List Call → ℕ → ℕ → ℕ → List ℕ → Row
   classes : List ℕ → List ℕ → Row
+
+-- the audit's number and map of what calls left, with a slot set to a handle
+unfoldable pub auditAfter : Outcome → ℕ → ℕ → Audited
+unfolding audit
+auditAfter o slot h = audit (o .answer .state) (o .words) (set (o .handles) slot h) (replicate 4 7)
 
 -- the same row, with what the rules give
 unfoldable pub computed : Row → Row
-unfolding after clearedPool listAt
+unfolding after clearedPool listAt auditAfter
 computed (outcomes n calls o) = outcomes n calls (after (clearedPool n) calls)
 computed (lists n calls xs) = lists n calls (listAt (after (clearedPool n) calls) 0)
+computed (audits n calls slot h number map) =
+    let a = auditAfter (after (clearedPool n) calls) slot h in
+    audits n calls slot h (a .answer .number) (a .map)
 computed (classes ns cs) = classes ns (map classOf ns)
 
 -- heads 0 and 1; the others are 0
@@ -85,6 +95,10 @@ table =
     -- P8 after P5, extend slot 1 by 1,2,3
     ∷ outcomes 16 to-P8
     (done 0 (stateOf 16 (headed 1 0)) (0 ∷ 0 ∷ 8 ∷ 9 ∷ 4 ∷ 5 ∷ 1 ∷ 2 ∷ 3 ∷ MAX ∷ MAX ∷ MAX ∷ 3 ∷ 8 ∷ 9 ∷ 10 ∷ []) (13 ∷ 5 ∷ 0 ∷ []))
+    -- its audit map
+    ∷ audits 16 to-P8 2 0 0 (2147483648 ∷ 2 ∷ 0 ∷ 1 ∷ [])
+    -- P9 P8 with slot 2 set to 5: audit 9, and the map words become 0
+    ∷ audits 16 to-P8 2 5 9 (0 ∷ 0 ∷ 0 ∷ 0 ∷ [])
     -- P10 lengths and classes
     ∷ classes (1 ∷ 3 ∷ 4 ∷ 7 ∷ 8 ∷ 65535 ∷ []) (0 ∷ 0 ∷ 1 ∷ 1 ∷ 2 ∷ 14 ∷ [])
     -- P11 after P8, truncate slot 1 to 3
@@ -96,5 +110,5 @@ table =
 
 -- every row is what the rules give
 pub sheet : map computed table ≡ table
-unfolding table computed called unless numberOf doneOf atNumber pushDone cleared clearDone lastRemoved grown opened growNumber extendDone growAtNumber growAtDone removeNumber removeDone truncateNumber truncateDone _orElse_ lengthAt soundHandle soundHead given tooLong overLimit entryNumber entryNumber₂ badHead noRoom roomNumber needsBlock needNumber recycled fresh alloc free realloc moved filled copied stored classOf sizeOf
+unfolding table computed audit auditNumber verdict accepted swept groupsAt classAt chainsMarked chainMarked handlesMarked andThen marked called unless numberOf doneOf atNumber pushDone cleared clearDone lastRemoved grown opened growNumber extendDone growAtNumber growAtDone removeNumber removeDone truncateNumber truncateDone _orElse_ lengthAt soundHandle soundHead given tooLong overLimit entryNumber entryNumber₂ badHead noRoom roomNumber needsBlock needNumber recycled fresh alloc free realloc moved filled copied stored classOf sizeOf sizeWord
 sheet = refl

@@ -1,7 +1,34 @@
-// Local soundness, of a handle and of a head, on any words whatever.
+// The checks that the calls and the audit share, on any input whatever: the limits, and local soundness of a handle and of a head.
 ghost use mathlib.Core.Path.{_≡_};
-ghost use Rattle.pool.specs.Numbers.{soundHandle, soundHead};
+ghost use Rattle.pool.specs.Numbers.{overLimit, soundHandle, soundHead, tooLong};
 use sizes::SizeClass;
+
+pub const POOL_LIMIT: usize = 65536;
+
+pub const TABLE_LIMIT: usize = 16384;
+
+// Is the pool or the table over its limit?
+pub fn too_long(pool: usize, table: usize) -> bool
+    ensures { λ r. ⌜ r ≡ tooLong pool table ⌝ }
+{
+    if pool > POOL_LIMIT {
+        return true;
+    }
+    table > TABLE_LIMIT
+}
+
+// Is a limit passed?
+pub fn over_limit(used: u32, pool: usize, table: usize) -> bool
+    ensures { λ r. ⌜ r ≡ overLimit used pool table ⌝ }
+{
+    if too_long(pool, table) {
+        return true;
+    }
+    if used as usize > pool {
+        return true;
+    }
+    used % 4 != 0
+}
 
 // Is a handle locally sound?
 pub fn sound_handle(used: usize, pool: &[u32], h: u32) -> bool

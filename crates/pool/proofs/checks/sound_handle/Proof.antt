@@ -5,8 +5,8 @@ use lib.ListN.{List·getD-eq-default}
 use Rattle.pool.specs.Numbers.{soundHandle}
 use Rattle.pool.proofs.Tests.{tests}
 use borrow.Author.Needs.{needs}
-use Rattle.pool.proofs.local.sound_handle.Statement.{statement}
-use Rattle.pool.proofs.local.sound_handle.Tie as tie
+use Rattle.pool.proofs.checks.sound_handle.Statement.{statement}
+use Rattle.pool.proofs.checks.sound_handle.Tie as tie
 
 returns : tie.Need-returns
 unfolding soundHandle
