@@ -18,10 +18,6 @@ pub length-copied : (ws : List ℕ) (from to n : ℕ) → length (copied ws from
 unfolding copied
 length-copied ws from to n = length-sets ws to (take n (drop from ws))
 
-pub length-stored : (ws : List ℕ) (at : ℕ) (xs : List ℕ) → length (stored ws at xs) ≡ length ws
-unfolding stored
-length-stored ws at xs = length-sets ws at xs
-
 -- a word below the run, and one above it, stays
 pub getD-sets-below : (ws : List ℕ) (at : ℕ) (xs : List ℕ) (k : ℕ) → k < at → getD (sets ws at xs) k 0 ≡ getD ws k 0
 getD-sets-below ws at [] k h = refl
