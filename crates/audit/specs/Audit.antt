@@ -1,11 +1,11 @@
 -- The audit's rule: paper 01, "The audit". Every handle and every pointer on each chain is judged and its block marked in the map, at the block's
 -- first group of four words; then the map is swept once: the marked blocks have to follow one another without gap or overlap up to used.
 use Prim.Native.Nat.{ℕ, zero, suc, _+_, _-_, _*_, _/_}
-use mathlib.Core.Bool.{Bool, true, false, cond, not, _&&_}
+use mathlib.Core.Bool.{Bool, cond, not, _&&_}
 use mathlib.Core.List.{List, [], _∷_}
 use mathlib.Core.Option.{Option, none, some}
 use lib.ListN.{length, getD, set, take}
-use lib.Dec.{eqb, ltb, leb}
+use lib.Dec.{eqb, ltb}
 use Rattle.sizes.specs.Class.{classOf, sizeWord}
 use Rattle.words.specs.Runs.{filled}
 use Rattle.pool.specs.declared.ListPool.{ListPool}

@@ -1,2 +1,11 @@
 pub mod Audit
 pub mod Sheet
+pub mod Exact
+pub mod Insurer
+pub mod Passes
+pub mod Marks
+pub mod Sweep
+pub mod Walks
+pub mod Covers
+pub mod Cases
+pub mod Owners

@@ -1,0 +1,69 @@
+-- The insurer's theorem: if the audit answers 0, then every element that a slot's list reports lies in a block that belongs to that slot
+-- and to no other slot and no chain.
+use mathlib.Core.Path.{_≡_, refl, ap, _∙_}
+use mathlib.Core.List.{List}
+use mathlib.Core.Logic.{_≢_}
+use Prim.Native.Nat.{ℕ, _+_, _<_}
+use native.Mathlib.Omega.{arith}
+use native.Mathlib.Decide.{decLt}
+use lib.ListN.{length, getD, List·getD-eq-default}
+use Rattle.words.specs.RunLaws.{getD-take-drop}
+use Rattle.sizes.specs.Class.{classCount}
+use Rattle.sizes.specs.Laws.{class-holds}
+use Rattle.pool.specs.declared.ListPool.{ListPool}
+use Rattle.pool.specs.Numbers.{handleAt, lengthAt}
+use Rattle.pool.specs.Rules.{lenOf, get, done, called}
+use Rattle.pool.specs.Facts.{Within, list-at}
+use Rattle.sound.specs.Sound.{Cut, lists, Holds}
+use Rattle.sound.specs.Held.{length-none}
+use Rattle.sound.specs.Meaning.{live, free, Lies, blocks-apart}
+use Rattle.sound.specs.Changes.{list-is, length-list}
+use Rattle.sound.specs.Reading.{get-reads}
+use Rattle.audit.specs.Audit.{audit}
+use Rattle.audit.specs.Exact.{audit-zero}
+
+-- the word i lies in the block of the slot, in that of no other slot, and in no free block of any chain
+pub record Belongs (ws hs : List ℕ) (fs : List (List ℕ)) (slot i : ℕ) : Type 0 where
+  pub own : Lies ws hs fs i (live slot)
+  pub no-other : (other : ℕ) → other ≢ slot → Lies ws hs fs i (live other) → ⊥
+  pub no-chain : (c k : ℕ) → Lies ws hs fs i (free c k) → ⊥
+
+-- an element's word lies in its own list's block
+element-lies : {st : ListPool} {ws hs : List ℕ} {fs : List (List ℕ)} → Within (st .used) (length ws) (length hs) → Cut st ws hs fs
+    → (slot p : ℕ) → p < lenOf ws hs slot → Lies ws hs fs (handleAt hs slot + p) (live slot)
+element-lies {st} {ws} {hs} W C slot p l =
+    let at = list-at (st .used) ws (handleAt hs slot) (W .below) (W .pool-limit) (C .handles slot) in
+    let some = at .some (omega arith) in
+    let block = at .block (omega arith) in
+    let fits = class-holds (lenOf ws hs slot) (omega arith) in
+    record { block = (inside (decLt slot (length hs)), λ z. omega arith); from = omega arith; to = omega arith }
+  where
+    inside : Dec (slot < length hs) → slot < length hs
+    inside (yes b) = b
+    inside (no b) = absurd (omega (arith, ap (lengthAt ws) (List·getD-eq-default hs 0 {n = slot} (omega arith)), length-none ws))
+
+-- "If the audit answers 0, then every element that a slot's list reports lies in a block that belongs to that slot and to no other slot and no chain":
+-- there is one way to cut the used words into live and free blocks, and in it this holds of the word of every position below every list's length.
+pub elements-belong : (st : ListPool) (ws hs map : List ℕ) → length (st .heads) ≡ classCount → audit st ws hs map .answer .number ≡ 0
+    → (fs : List (List ℕ)) × Cut st ws hs fs × ((slot p : ℕ) → p < lenOf ws hs slot → Belongs ws hs fs slot (handleAt hs slot + p))
+elements-belong st ws hs map n z =
+    let (W, room, (fs, C)) = audit-zero st ws hs map n .0 z in (
+      fs,
+      C,
+      λ slot p l.
+          let own = element-lies W C slot p l in
+          record {
+            own = own;
+            no-other = λ other ne M. blocks-apart C (live other) (live slot) (λ e. ne (cc)) (handleAt hs slot + p) M own;
+            no-chain = λ c k M. blocks-apart C (free c k) (live slot) (λ e. let z : _≡_ {A = ℕ} 0 1 = cc in omega arith) (handleAt hs slot + p) M own;
+          },
+    )
+
+-- And what the list reports is that word: `get` gives it at each of these positions.
+pub element-reported : (st : ListPool) (ws hs map : List ℕ) → length (st .heads) ≡ classCount → audit st ws hs map .answer .number ≡ 0
+    → (slot p : ℕ) → slot < length hs → p < lenOf ws hs slot → called (get slot p) st ws hs ≡ done (getD ws (handleAt hs slot + p) 0) st ws hs
+element-reported st ws hs map n z slot p b l =
+    let (W, room, S) = audit-zero st ws hs map n .0 z in
+    let H : Holds st ws hs (lists ws hs) = record { sound = S; within = W; are = refl } in
+    let same = ap (λ (xs : List ℕ). getD xs p 0) (list-is H slot) ∙ getD-take-drop ws (handleAt hs slot) (lenOf ws hs slot) p l in
+    get-reads H slot p b (omega (arith, length-list H slot)) ∙ ap (λ (x : ℕ). done x st ws hs) same
