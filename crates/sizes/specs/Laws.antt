@@ -49,6 +49,10 @@ top-size = refl
 pub or-three : (n : ℕ) → bitOr 3 n ≡ n / 4 * 4 + 3
 or-three n = omega arith
 
+pub class-le : (n : ℕ) → classOf n ≤ 30
+unfolding classOf
+class-le n = omega arith
+
 module _ (n : ℕ) (h : n < 2 ^ 32) where
   -- the place of the highest set digit of (n or 3), which is one more than the class
   top : (t : ℕ) × (leadingZeros 32 (bitOr 3 n) + suc t ≡ 32) × (0 < t) × (2 ^ t ≤ n / 4 * 4 + 3) × (n / 4 * 4 + 3 < 2 * 2 ^ t)
