@@ -10,6 +10,7 @@ use super::ListPool;
 use super::numbers;
 use super::steps;
 
+// What `push` does: the list gets room for one more, and the element is written behind the others.
 fn push_done(
     state: ListPool,
     pool: &mut [u32],
@@ -28,6 +29,7 @@ fn push_done(
     answer
 }
 
+// What `extend` does: the list grows, and the elements fill the places opened at its end.
 fn extend_done(
     state: ListPool,
     pool: &mut [u32],
@@ -45,6 +47,7 @@ fn extend_done(
     answer
 }
 
+// What `copy_from` does: places are opened at the position, and the source's range fills them.
 fn copy_from_done(
     state: ListPool,
     pool: &mut [u32],
@@ -65,6 +68,7 @@ fn copy_from_done(
     answer
 }
 
+// What `insert` does: the element is pushed, the tail goes up by one, and the element is written at the position.
 fn insert_done(
     state: ListPool,
     pool: &mut [u32],

@@ -11,6 +11,7 @@ use super::ListPool;
 use super::numbers;
 use super::steps;
 
+// What `from_slice` does: the empty list grows, and the elements are stored in it.
 fn from_slice_done(
     state: ListPool,
     pool: &mut [u32],
@@ -27,6 +28,7 @@ fn from_slice_done(
     answer
 }
 
+// What `deep_clone` does: the empty list grows to the other's length, and the other's elements are copied there.
 fn deep_clone_done(
     state: ListPool,
     pool: &mut [u32],

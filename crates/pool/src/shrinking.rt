@@ -13,6 +13,7 @@ use super::numbers;
 use super::steps;
 use sizes::SizeClass;
 
+// What `clear` does.
 fn clear_done(state: ListPool, pool: &mut [u32], handles: &mut [u32], slot: usize) -> Answer
     requires { ⌜ Entered (state .used) (now pool) (now handles) slot ⌝ }
     ensures { λ r. ⌜ outcome r (now (pool .exit)) (now (handles .exit)) ≡ rules.clearDone state (now (pool .entry)) (now (handles .entry)) slot ⌝ }
@@ -22,6 +23,7 @@ fn clear_done(state: ListPool, pool: &mut [u32], handles: &mut [u32], slot: usiz
     steps::cleared(state, pool, handles, slot, h, len)
 }
 
+// What `remove` does: the elements behind the position go down by one, and the last place is given up.
 fn remove_done(
     state: ListPool,
     pool: &mut [u32],
@@ -39,6 +41,7 @@ fn remove_done(
     steps::remove_last(state, pool, handles, slot, h, len)
 }
 
+// What `swap_remove` does: the element is exchanged with the last, and the last place is given up.
 fn swap_remove_done(
     state: ListPool,
     pool: &mut [u32],
@@ -59,6 +62,7 @@ fn swap_remove_done(
     steps::remove_last(state, pool, handles, slot, h, len)
 }
 
+// What `truncate` does: to 0 it clears, to the length or more it does nothing, else the list gets the new length.
 fn truncate_done(
     state: ListPool,
     pool: &mut [u32],
