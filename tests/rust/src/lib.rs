@@ -1,0 +1,24 @@
+//! Runs the library beside the original list.rs, and beside a plain model of paper 01.
+//!
+//! - [`world`]: what is lent, and the calls as data, so that all three can be given the same.
+//! - [`library`]: a call by the library, through its C functions or through the safe crate.
+//! - [`original`]: a call by the original, docs/src/src/list.rs as it stands.
+//! - [`model`]: a call by the rules of paper 01.
+//! - [`draws`]: random calls and damages, made from numbers that shrink.
+//! - [`pair`]: the library and the original side by side, compared after each call.
+//! - [`runs`]: as many cases of a property as it takes to make a number of calls, and what they
+//!   came to.
+
+// What list.rs names by these paths.
+extern crate alloc;
+#[doc(hidden)]
+pub extern crate core as __core;
+pub use original::{packed_option, EntityRef};
+
+pub mod draws;
+pub mod library;
+pub mod model;
+pub mod original;
+pub mod pair;
+pub mod runs;
+pub mod world;

@@ -1,0 +1,155 @@
+//! The original, docs/src/src/list.rs as it stands, with a stub of what it leans on, and a call by
+//! it.
+//!
+//! Its element type is a plain wrapper over `u32`, any value, with 4,294,967,295 as the reserved
+//! one: `entity_impl!` does the same, but asserts in debug builds that an index is not the reserved
+//! value.
+
+use crate::world::{Call, Outcome};
+use list::{EntityList, ListPool};
+use packed_option::ReservedValue;
+
+#[path = "../../../docs/src/src/list.rs"]
+#[allow(clippy::all)]
+pub mod list;
+
+/// What list.rs asks of an element, as in the original's lib.rs.
+pub trait EntityRef: Copy + Eq {
+    /// Makes an element from an index.
+    fn new(index: usize) -> Self;
+    /// The index that the element was made from.
+    fn index(self) -> usize;
+}
+
+/// The part of the original's packed_option.rs that list.rs uses.
+pub mod packed_option {
+    /// Types that have a reserved value.
+    pub trait ReservedValue {
+        /// The reserved value.
+        fn reserved_value() -> Self;
+        /// Is this the reserved value?
+        fn is_reserved_value(&self) -> bool;
+    }
+}
+
+/// An element: any word.
+#[derive(Clone, Copy, Debug, PartialEq, Eq)]
+pub struct Word(pub u32);
+
+impl EntityRef for Word {
+    fn new(index: usize) -> Word {
+        Word(index as u32)
+    }
+
+    fn index(self) -> usize {
+        self.0 as usize
+    }
+}
+
+impl ReservedValue for Word {
+    fn reserved_value() -> Word {
+        Word(u32::MAX)
+    }
+
+    fn is_reserved_value(&self) -> bool {
+        self.0 == u32::MAX
+    }
+}
+
+/// A pool of the original, and a table of its lists.
+pub struct Original {
+    pool: ListPool<Word>,
+    lists: Vec<EntityList<Word>>,
+}
+
+impl Original {
+    /// A new pool and a table of so many empty lists.
+    pub fn cleared(slots: usize) -> Original {
+        Original { pool: ListPool::new(), lists: vec![EntityList::new(); slots] }
+    }
+
+    /// The used words.
+    pub fn words(&self) -> impl ExactSizeIterator<Item = u32> + '_ {
+        self.pool.words().iter().map(|word| word.0)
+    }
+
+    /// The heads: "one the Rust has not made counts as 0".
+    pub fn heads(&self) -> [u32; 15] {
+        let mut heads = [0; 15];
+        for (head, &made) in heads.iter_mut().zip(self.pool.heads()) {
+            *head = made as u32;
+        }
+        heads
+    }
+
+    /// The handles.
+    pub fn handles(&self) -> impl Iterator<Item = u32> + '_ {
+        self.lists.iter().map(EntityList::handle)
+    }
+
+    /// Makes a call that the paper does not refuse, and gives what the library has to give.
+    pub fn call(&mut self, call: &Call) -> Outcome {
+        let Original { pool, lists } = self;
+        let value = match *call {
+            Call::IsEmpty { slot } => u32::from(lists[slot].is_empty()),
+            Call::Len { slot } => lists[slot].len(pool) as u32,
+            Call::IsValid { slot } => u32::from(lists[slot].is_valid(pool)),
+            Call::AsSlice { slot } => {
+                // `as_slice` carries no number, so it comes here for a slot that is not in the
+                // table too: then the part is empty.
+                let list = lists.get(slot).copied().unwrap_or_default();
+                let first = list.handle() as usize;
+                return Outcome::Part(first..first + list.as_slice(pool).len());
+            }
+            Call::Get { slot, position } => {
+                lists[slot].get(position, pool).expect("the position is in the list").0
+            }
+            Call::First { slot } => lists[slot].first(pool).expect("the list is not empty").0,
+            Call::Push { slot, element } => lists[slot].push(Word(element), pool) as u32,
+            _ => {
+                self.write(call);
+                0
+            }
+        };
+        Outcome::done(value)
+    }
+
+    /// Makes a call that has nothing to return.
+    fn write(&mut self, call: &Call) {
+        let Original { pool, lists } = self;
+        match *call {
+            Call::FromSlice { slot, ref elements } => {
+                let elements: Vec<Word> = elements.iter().copied().map(Word).collect();
+                lists[slot] = EntityList::from_slice(&elements, pool);
+            }
+            Call::Set { slot, position, element } => {
+                *lists[slot].get_mut(position, pool).expect("the position is in the list") =
+                    Word(element)
+            }
+            Call::DeepClone { from, to } => lists[to] = lists[from].deep_clone(pool),
+            Call::Clear { slot } => lists[slot].clear(pool),
+            Call::Take { from, to } => lists[to] = lists[from].take(),
+            Call::Extend { slot, ref elements } => {
+                lists[slot].extend(elements.iter().copied().map(Word), pool)
+            }
+            Call::CopyFrom { target, source, start, end, position } => {
+                let source = lists[source];
+                lists[target].copy_from(&source, start..end, position, pool);
+            }
+            Call::Insert { slot, position, element } => {
+                lists[slot].insert(position, Word(element), pool)
+            }
+            Call::Remove { slot, position } => lists[slot].remove(position, pool),
+            Call::SwapRemove { slot, position } => lists[slot].swap_remove(position, pool),
+            Call::Truncate { slot, length } => lists[slot].truncate(length, pool),
+            Call::GrowAt { slot, position, count } => lists[slot].grow_at(position, count, pool),
+            Call::ClearPool => {
+                pool.clear();
+                lists.fill(EntityList::new());
+            }
+            _ => unreachable!(
+                "a call that returns something, or one that the original has not: {call:?}"
+            ),
+        }
+    }
+}
