@@ -1,0 +1,111 @@
+# Lists what the files declare, a line each, its parts behind tabs:
+#
+#     antt    CITATION  pub|private  FILE  LINE         a definition or theorem of a crate's specs, cited as crate.File.name
+#     rattle  CITATION  pub|private  FILE  LINE  KIND   what a crate's source declares, cited as crate::file::name or crate::name
+#     test    PATH::NAME                                a function of a test in Rust or C
+#
+# KIND is struct, const, or fn followed by what it has: method, extern, requires, ensures. The Lib.antt of the crates come first.
+
+BEGIN { OFS = "\t" }
+
+FNR == 1 {
+    flush()
+    split(FILENAME, part, "/")
+    crate = part[2]
+    stem = part[4]
+    sub(/\.[a-z]*$/, "", stem)
+    type = ""
+    in_record = 0
+    language = FILENAME
+    sub(/.*\./, "", language)
+}
+
+language == "antt" { antt(); next }
+language == "rt" { rattle(); next }
+language == "rs" { if (match($0, /(^|[ \t])fn [a-z_0-9]+/)) test(substr($0, RSTART, RLENGTH)); next }
+language ~ /^(c|cc|h)$/ { if ($0 ~ /^[a-z].*[ *][a-z_0-9]+\(/ && $0 !~ /[;=]/) { sub(/\(.*/, ""); test($0) } next }
+
+END { flush() }
+
+# The last word of a text is a test's function.
+function test(text, words, n) {
+    n = split(text, words, /[ \t*]+/)
+    print "test", FILENAME "::" words[n]
+}
+
+# A line of antt. What is exported has the word pub; fields of a record and constructors of a data type are no declarations of their own.
+function antt(    words, n, i, exported, marked, indent) {
+    match($0, /^ */)
+    indent = RLENGTH
+    n = split($0, words, " ")
+    if (n == 0 || words[1] ~ /^--/) return
+    if (in_record && indent > record_indent) return
+    in_record = 0
+    i = 1
+    while (words[i] ~ /^(pub|abbrev|unfoldable|opaque)$/) {
+        marked = 1
+        if (words[i] == "pub") exported = 1
+        i++
+    }
+    if (words[i] == "mod") {
+        module[crate, words[i + 1]] = exported
+        return
+    }
+    if (words[i] == "record" || words[i] == "data") {
+        if (words[i + 1] == "{") return
+        in_record = 1
+        record_indent = indent
+        i++
+    } else if (!marked && words[i + 1] != ":") return
+    print "antt", crate "." stem "." words[i], exported && module[crate, stem] ? "pub" : "private", FILENAME, FNR
+}
+
+# A line of Rattle. A function's contract stands between its name and its body.
+function rattle(    words) {
+    if ($0 ~ /^impl /) {
+        split($0, words, " ")
+        type = words[2] "::"
+        return
+    }
+    if ($0 ~ /^}/) type = ""
+    if ($0 ~ /^ *(pub )?(extern "C" )?fn /) {
+        flush()
+        open = 1
+        kind = "fn"
+        exported = $0 ~ /^ *pub / ? "pub" : "private"
+        if (type != "") kind = kind " method"
+        if ($0 ~ /extern "C"/) kind = kind " extern"
+        name = $0
+        sub(/^.*fn /, "", name)
+        sub(/[^A-Za-z0-9_].*/, "", name)
+        name_line = FNR
+        name_file = FILENAME
+        name_place = place()
+        name_type = type
+    } else if ($0 ~ /^ *(pub )?(const|struct) /) {
+        name = $0
+        sub(/^ *(pub )?(const|struct) /, "", name)
+        sub(/[^A-Za-z0-9_].*/, "", name)
+        say($0 ~ /^ *(pub )?const / ? "const" : "struct", name, $0 ~ /^ *pub / ? "pub" : "private", place(), type, FILENAME, FNR)
+        return
+    }
+    if (!open) return
+    if ($0 ~ /^ *requires \{/) kind = kind " requires"
+    else if ($0 ~ /^ *ensures \{/) kind = kind " ensures"
+    else if ($0 ~ /\{$/) flush()
+}
+
+# Where a file's items are cited: its crate, and its own name unless it is the crate's root.
+function place() { return crate "::" (stem == "lib" || stem == "main" ? "" : stem "::") }
+
+# The function that was being read is done.
+function flush() {
+    if (open) say(kind, name, exported, name_place, name_type, name_file, name_line)
+    open = 0
+}
+
+# A method is cited with its type or without.
+function say(kind, name, exported, where, type, file, line) {
+    print "rattle", where name, exported, file, line, kind
+    if (type != "") print "rattle", where type name, exported, file, line, kind " again"
+}
