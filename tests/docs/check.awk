@@ -1,5 +1,5 @@
-# Checks the documents. It is given, each behind an assignment to `kind`: the index (what declared.awk lists, and the files and programs
-# there are), paper 01, docs/PROVED.md, docs/ANSWER.md, and the pages of which only links and commands are checked.
+# Checks the documents. It is given, each behind an assignment to `kind`: the index (what declared.awk lists, the files and programs
+# there are, and lines of the specs), paper 01, docs/PROVED.md, docs/ANSWER.md, and the pages of which only links and commands are checked.
 # A check that fails prints FILE:LINE: and what is missing. The last line is 'N passed, M failed'.
 
 BEGIN { FS = "\t" }
@@ -9,7 +9,7 @@ FNR == 1 { table = 0; fence = 0; if (kind != "index") slugs() }
 kind == "index" { index_line(); next }
 kind == "paper" { paper_line(); next }
 kind == "proved" { quotations(); rows() }
-kind == "answer" { tokens($0, 0) }
+kind == "answer" { tokens($0, "", 0); statement() }
 kind != "index" && kind != "paper" { links(); if (kind != "proved") commands() }
 
 END {
@@ -38,6 +38,7 @@ function index_line() {
     if ($1 == "file") is_file[$2] = 1
     else if ($1 == "program") is_program[$2] = 1
     else if ($1 == "test") is_test[$2] = 1
+    else if ($1 == "line") is_line[$2] = 1
     else if ($1 == "antt") { if (antt[$2] != "pub") antt[$2] = $3 }
     else if ($1 == "rattle") {
         rattle[$2] = $6
@@ -97,6 +98,13 @@ function tokens(text, column, place,    words, n, i, found) {
     return found
 }
 
+# docs/ANSWER.md: a line of a theorem stands so in the specs.
+function statement(    line) {
+    line = $0
+    if (!sub(/^     */, "", line) || !index(line, "→")) return
+    check(line in is_line, here(), "no line of the specs is: " line)
+}
+
 # docs/PROVED.md: its tables' rows, each of which cites something, and its text.
 function rows(    text, cells, n, i, found) {
     text = $0
@@ -118,7 +126,7 @@ function rows(    text, cells, n, i, found) {
     }
     if (table == 2) return
     check(n == columns, here(), "a row of " n - 2 " cells in a table of " columns - 2)
-    for (i = 2; i < n; i++) found += tokens(cells[i], head[i], head[i] ~ /^Two wrong/ ? 1 : i - 1)
+    for (i = 2; i < n; i++) found += tokens(cells[i], head[i], head[2] == "Citation" ? 0 : head[i] ~ /^Two wrong/ ? 1 : i - 1)
     check(found > 0, here(), "a row that cites nothing")
 }
 
