@@ -86,6 +86,7 @@ function citation(token, column,    path, known, what) {
 # Checks the citations of a text, which stand in backquotes; gives how many there are. In a column that cites, all that stands in backquotes is one.
 function tokens(text, column, place,    words, n, i, found) {
     n = split(text, words, "`")
+    if (n && n % 2 == 0) check(0, here(), "an odd number of backquotes")
     for (i = 2; i <= n; i += 2) {
         if (citation(words[i], column)) {
             found++
@@ -135,6 +136,7 @@ function rows(    text, cells, n, i, found) {
 # Every text between quotation marks is paper 01's, in pieces where words are left out.
 function quotations(    words, parts, n, m, i, j) {
     n = split($0, words, "\"")
+    if (n && n % 2 == 0) check(0, here(), "an odd number of quotation marks")
     for (i = 2; i <= n; i += 2) {
         m = split(words[i], parts, / \.\./)
         for (j = 1; j <= m; j++) {
