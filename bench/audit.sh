@@ -23,22 +23,10 @@ kinds='live free mixed'
 
 # ---- the program, and how this machine runs it: as rt does
 cd "$(dirname "$0")/.." || die "cannot enter the repository"
-rt=$(command -v rt) || die "no rt on the path"
+. bench/kit.sh
 rt check audit_bench || die "rt check audit_bench failed"
 bin=$(pwd -P)/target/bin/audit_bench
 [ -f "$bin" ] || die "rt check made no target/bin/audit_bench"
-while [ -L "$rt" ]; do
-    link=$(readlink "$rt")
-    case $link in /*) rt=$link ;; *) rt=$(dirname "$rt")/$link ;; esac
-done
-home=${RATTLE_HOME:-$(cd "$(dirname "$rt")/.." && pwd -P)}
-tools=$home/on/$(uname -m)/toolchain
-loader=$tools/lib/ld-linux-x86-64.so.2
-[ -f "$loader" ] || die "the kit of this rt has no loader for its programs"
-# programs are for x86-64; on another processor the kit has an emulator beside its compiler
-emulator=$tools/bin/qemu-x86_64
-[ -x "$emulator" ] || emulator=''
-for word in $(env | sed -n 's/^\(QEMU_[A-Za-z0-9_]*\)=.*/\1/p'); do unset "$word"; done
 
 room=$(mktemp -d) || die "cannot make a temporary folder"
 trap 'rm -rf "$room"' EXIT
@@ -62,7 +50,7 @@ median() { sort -n | awk '{ v[NR] = $1 } END { print NR % 2 ? v[(NR + 1) / 2] : 
 # One run: its line is kept, and its time for one round is added to the case's list.
 timed() { # WORDS KIND WHAT ROUNDS
     kept=$room/$1.$2.$3
-    ${emulator:+"$emulator"} "$loader" --library-path "$tools/lib" "$bin" "$@" >"$kept.line" || die "audit_bench $* failed"
+    run_program "$bin" "$@" >"$kept.line" || die "audit_bench $* failed"
     sound "$1" "$2" "$3" <"$kept.line" || die "audit_bench $* wrote: $(cat "$kept.line")"
     awk -v rounds="$4" '{ print $12 / rounds }' "$kept.line" >>"$kept.each"
 }

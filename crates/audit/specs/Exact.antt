@@ -12,13 +12,15 @@ use Rattle.sizes.specs.Class.{classCount, classOf}
 use Rattle.sizes.specs.Laws.{size-least, size-fours}
 use Rattle.words.specs.RunLaws.{length-filled}
 use Rattle.pool.specs.declared.ListPool.{ListPool}
+use Rattle.pool.specs.declared.Answer.{Answer}
 use Rattle.pool.specs.Numbers.{poolLimit, tableLimit, stateOf, handleAt, overLimit}
-use Rattle.pool.specs.Rules.{answer, lenOf}
+use Rattle.pool.specs.Rules.{Outcome, answer, lenOf}
 use Rattle.pool.specs.Facts.{Within}
 use Rattle.sound.specs.Sound.{Cut, Sound}
 use Rattle.sound.specs.Meaning.{Place, live, free, Block, startOf, wordsOf, Lies, OnChain, word-in-one, word-in-block, word-in-none, cut-unique}
 use Rattle.sound.specs.Cleared.{cleared-sound}
-use Rattle.audit.specs.Audit.{groupOf, audit}
+use Rattle.sound.specs.Runs.{Reached, reached-sound}
+use Rattle.audit.specs.Audit.{groupOf, Audited, audited, audit}
 use Rattle.audit.specs.Marks.{made-length, made-past, made-has, made-from}
 use Rattle.audit.specs.Walks.{marksOf, Accepted, accepted-says}
 use Rattle.audit.specs.Covers.{marks-fit, accepted-cut, cut-accepted}
@@ -277,3 +279,17 @@ module _ {st : ListPool} {ws hs : List ℕ} {fs : List (List ℕ)} (map : List �
       go : ((p : Place) → Block hs fs p → startOf hs fs p ≢ g * 4) → (mapWord st ws hs map g ≡ 0) ⊎ (0 < mapWord st ws hs map g) → mapWord st ws hs map g ≡ 0
       go none-starts (inl z) = z
       go none-starts (inr u) = let (p, B, e, v) = map-says g l (omega arith) in absurd (none-starts p B e)
+
+-- "any two outcomes that satisfy it are shown equal": two answers of one audit, with the maps they leave
+pub audit-determined : (st : ListPool) (ws hs map : List ℕ) {r r′ : Answer} {left left′ : List ℕ}
+    → audited r left ≡ audit st ws hs map → audited r′ left′ ≡ audit st ws hs map → (r ≡ r′) × (left ≡ left′)
+audit-determined st ws hs map e e′ =
+    let same = e ∙ sym e′ in
+    (ap (λ (a : Audited). a .answer) same, ap (λ (a : Audited). a .map) same)
+
+-- "from a cleared pool any sequence of calls ends accepted": with writes to list elements in between by anybody, and given map enough
+pub reached-accepted : {o : Outcome} → Reached o → (map : List ℕ) → o .answer .state .used / 4 ≤ length map
+    → audit (o .answer .state) (o .words) (o .handles) map .answer .number ≡ 0
+reached-accepted {o} r map room =
+    let (s, w) = reached-sound r in
+    audit-exact (o .answer .state) (o .words) (o .handles) map w (s .1 .heads) room .1 s

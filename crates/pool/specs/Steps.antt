@@ -11,7 +11,7 @@ use Rattle.pool.specs.declared.Block.{Block}
 use Rattle.pool.specs.Numbers.{poolLimit, stateOf, headOf, handleAt, needsBlock}
 use Rattle.pool.specs.Blocks.{Taken, Freed}
 use Rattle.pool.specs.declared.Answer.{Answer}
-use Rattle.pool.specs.Rules.{Outcome, outcome, lenOf}
+use Rattle.pool.specs.Rules.{Call, Outcome, answer, outcome, called, lenOf}
 
 -- a list of n elements at the handle h, in a pool of p words: it is empty at 0 and only there, and its block lies in the pool
 pub record ListAt (p h n : ℕ) : Type 0 where
@@ -90,3 +90,7 @@ pub record Leaves (p : ℕ) (rule : Outcome) (slot n : ℕ) (r : Answer) (after 
 pub record Takes (p : ℕ) (rule : Taken) (k : ℕ) (t : Block) (heads after : List ℕ) : Type 0 where
   pub is : taken t heads after ≡ rule
   pub ends : t .at + k ≤ p
+
+-- the number and the deed of a call that leaves the state as it is and gives no value: of such a call they need the used count alone
+pub record Does (call : Call) (used : ℕ) (ws hs : List ℕ) (r : ℕ) (after tabled : List ℕ) : Type 0 where
+  pub whatever : (heads : List ℕ) → outcome (answer r 0 (stateOf used heads)) after tabled ≡ called call (stateOf used heads) ws hs

@@ -5,7 +5,7 @@ ghost use lib.ListN.{length};
 ghost use Rattle.pool.specs.Rules as rules;
 ghost use Rattle.pool.specs.Rules.{called, lenOf, outcome};
 ghost use Rattle.pool.specs.Facts.{Entered};
-ghost use Rattle.pool.specs.Steps.{Ready};
+ghost use Rattle.pool.specs.Steps.{Does, Ready};
 use super::Answer;
 use super::ListPool;
 use super::numbers;
@@ -45,6 +45,19 @@ fn deep_clone_done(
     let at = handles[to] as usize;
     words::copy(pool, h as usize, at, len);
     answer
+}
+
+// Moves the handle of `take`, and gives the number of the call.
+fn take_handle(used: u32, pool: &[u32], handles: &mut [u32], slot: usize, to: usize) -> u32
+    ensures { λ r. ⌜ Does (rules.take slot to) used (now (pool .entry)) (now (handles .entry)) r (now (pool .entry)) (now (handles .exit)) ⌝ }
+{
+    let number = numbers::take_number(used, pool, handles, slot, to);
+    if number != 0 {
+        return number;
+    }
+    handles[to] = handles[slot];
+    handles[slot] = 0;
+    0
 }
 
 impl ListPool {
@@ -87,12 +100,11 @@ impl ListPool {
     pub fn take(self, pool: &[u32], handles: &mut [u32], slot: usize, to: usize) -> Answer
         ensures { λ r. ⌜ outcome r (now (pool .entry)) (now (handles .exit)) ≡ called (rules.take slot to) self (now (pool .entry)) (now (handles .entry)) ⌝ }
     {
-        let number = numbers::take_number(self.used, pool, handles, slot, to);
-        if number != 0 {
-            return steps::refused(self, number);
+        let number = take_handle(self.used, pool, handles, slot, to);
+        Answer {
+            number,
+            value: 0,
+            state: self,
         }
-        handles[to] = handles[slot];
-        handles[slot] = 0;
-        steps::done(self, 0)
     }
 }

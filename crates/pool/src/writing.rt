@@ -3,10 +3,30 @@ ghost use mathlib.Core.Path.{_≡_};
 ghost use Rattle.pool.specs.Rules as rules;
 ghost use Rattle.pool.specs.Rules.{called, outcome};
 ghost use Rattle.pool.specs.Parts.{LiesIn};
+ghost use Rattle.pool.specs.Steps.{Does};
 use super::Answer;
 use super::ListPool;
 use super::numbers;
-use super::steps;
+
+// Sets the element, and gives the number of the call.
+fn set_element(
+    used: u32,
+    pool: &mut [u32],
+    handles: &[u32],
+    slot: usize,
+    position: usize,
+    element: u32,
+) -> u32
+    ensures { λ r. ⌜ Does (rules.setAt slot position element) used (now (pool .entry)) (now (handles .entry)) r (now (pool .exit)) (now (handles .entry)) ⌝ }
+{
+    let number = numbers::at_number(used, pool, handles, slot, position);
+    if number != 0 {
+        return number;
+    }
+    let at = handles[slot] as usize + position;
+    pool[at] = element;
+    0
+}
 
 impl ListPool {
     // The elements of the list in a slot, to be written: a part of the pool, empty where reading the list is refused.
@@ -35,12 +55,11 @@ impl ListPool {
     ) -> Answer
         ensures { λ r. ⌜ outcome r (now (pool .exit)) (now (handles .entry)) ≡ called (rules.setAt slot position element) self (now (pool .entry)) (now (handles .entry)) ⌝ }
     {
-        let number = numbers::at_number(self.used, pool, handles, slot, position);
-        if number != 0 {
-            return steps::refused(self, number);
+        let number = set_element(self.used, pool, handles, slot, position, element);
+        Answer {
+            number,
+            value: 0,
+            state: self,
         }
-        let at = handles[slot] as usize + position;
-        pool[at] = element;
-        steps::done(self, 0)
     }
 }

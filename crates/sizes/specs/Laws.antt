@@ -8,7 +8,7 @@ use lib.Dec.{lit<}
 use lib.Bits.{bitOr, or-lt}
 use lib.Pow.{pow-mono, pow-pos}
 use lib.Count.{leadingZeros, leading-top}
-use Rattle.sizes.specs.Class.{smallest, classCount, longest, classOf, sizeOf}
+use Rattle.sizes.specs.Class.{smallest, classCount, longest, classOf, sizeOf, ClassOf, SizeOf}
 
 not-more : {a b : ℕ} → ¬ (b < a) → a ≤ b
 not-more h = le-of-suc-le-suc (lt-of-not-le h)
@@ -151,3 +151,10 @@ class-legal n h = (
 
 pub class-below : (n : ℕ) → n ≤ longest → classOf n < classCount
 class-below n l = class-legal n (omega arith) .0 l
+
+-- "any two outcomes that satisfy it are shown equal": of the class of a length, and of the size of a class
+pub class-determined : {n r r′ : ℕ} → ClassOf n r → ClassOf n r′ → r ≡ r′
+class-determined a b = a .is ∙ sym (b .is)
+
+pub size-determined : {c r r′ : ℕ} → SizeOf c r → SizeOf c r′ → r ≡ r′
+size-determined a b = a .is ∙ sym (b .is)

@@ -1,67 +1,16 @@
--- `take` meets its contract: refused with its number, or done.
-use native.Mathlib.Omega.{arith}
-use lib.ListN.{length-set}
-use Rattle.pool.specs.Rules.{called, unless, numberOf, doneOf, takeDone}
-use Rattle.pool.proofs.Tests.{tests}
+-- `take` meets its contract: the number and the deed are `take_handle`'s, whatever the heads, and the state is handed back.
 use borrow.Author.Needs.{needs}
 use Rattle.pool.proofs.ListPool.take.Statement.{statement}
 use Rattle.pool.proofs.ListPool.take.Tie as tie
 
-take-number-requires : tie.Need-take-number-requires
-take-number-requires c κs = search needs
-
-refused-requires : tie.Need-refused-requires
-refused-requires c κs = search needs
+take-handle-requires : tie.Need-take-handle-requires
+take-handle-requires c κs = search needs
 
 same-length : tie.Need-same-length
 same-length c = search needs
 
 returns : tie.Need-returns
-unfolding called unless numberOf
-returns c = search (tests, ← c .before .before .take-number .ensures .is, c .refused .ensures)
-
-mul-handles : tie.Need-mul-handles
-mul-handles c = let f = c .before .take-number .ensures .fine (omega arith) in omega arith
-
-slice-read-handles : tie.Need-slice-read-handles
-slice-read-handles c = c .before .before .take-number .ensures .fine (c .before .if1 .left) .0
-
-mul-handles-2 : tie.Need-mul-handles-2
-mul-handles-2 c = let f = c .before .before .take-number .ensures .fine (omega arith) in omega arith
-
-slice-write-handles : tie.Need-slice-write-handles
-slice-write-handles c = c .before .before .take-number .ensures .fine (c .before .if1 .left) .1
-
-mul-handles-3 : tie.Need-mul-handles-3
-mul-handles-3 c = let f = c .before .before .take-number .ensures .fine (omega arith) in omega arith
-
-slice-write-handles-2 : tie.Need-slice-write-handles-2
-slice-write-handles-2 c = simp length-set (c .before .before .take-number .ensures .fine (c .before .if1 .left) .0)
-
-done-requires : tie.Need-done-requires
-done-requires c κs = search needs
-
-same-length-2 : tie.Need-same-length-2
-same-length-2 c = search needs
-
-returns-2 : tie.Need-returns-2
-unfolding called unless numberOf doneOf takeDone
-returns-2 c = search (tests, ← c .before .before .before .take-number .ensures .is, c .done .ensures)
+returns c = c .before .before .take-handle .ensures .whatever (c .before .before .before .before .before .before .args .self .heads)
 
 pub take-spec : {M : Type 1} → statement M
-take-spec =
-    tie.close
-    (tie.spec
-    take-number-requires
-    refused-requires
-    same-length
-    returns
-    mul-handles
-    slice-read-handles
-    mul-handles-2
-    slice-write-handles
-    mul-handles-3
-    slice-write-handles-2
-    done-requires
-    same-length-2
-    returns-2)
+take-spec = tie.close (tie.spec take-handle-requires same-length returns)
