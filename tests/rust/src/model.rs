@@ -25,12 +25,12 @@ const FREE: u32 = 2_147_483_648;
 // ---- the state
 
 /// "Class of a length n: 30 minus the leading zeros of (n or 3) as 32 bits."
-fn class(length: u32) -> usize {
+pub fn class(length: u32) -> usize {
     30 - (length | 3).leading_zeros() as usize
 }
 
 /// "Size of class c: 4 shifted left by c."
-fn size(class: usize) -> u128 {
+pub fn size(class: usize) -> u128 {
     4 << class
 }
 
