@@ -214,6 +214,10 @@ fn row_13_from_slice_over_a_list() {
     assert_eq!((words(&pool), lists[0].handle()), (vec![1, 7, M, M, 1, 8, M, M], 5));
     let room = World { used: 4, ..world(&[1, 7, M, M, 0, 0, 0, 0], &[], &[1]) };
     refused(&room, Call::FromSlice { slot: 0, elements: vec![8] }, 5);
+
+    lists[0] = List::from_slice(&[], &mut pool);
+    assert!(lists[0].is_empty());
+    refused(&room, Call::FromSlice { slot: 0, elements: vec![] }, 5);
 }
 
 #[test]
@@ -615,6 +619,17 @@ fn row_45_extend_by_fewer_elements_than_promised() {
     let (mut pool, mut lists) = original(&nothing());
     lists[0].extend(Promised(Some(Word(7))), &mut pool);
     assert_eq!(elements(&lists[0], &pool), [7, M, M]);
+}
+
+/// Only the count of the range is tested, and that is 0.
+#[test]
+fn row_46_copy_from_an_empty_range_behind_the_list() {
+    let entry = world(&[1, 7, M, M, 1, 8, M, M], &[], &[1, 5]);
+    let (mut pool, mut lists) = original(&entry);
+    let source = lists[1];
+    lists[0].copy_from(&source, 2..2, 0, &mut pool);
+    assert_eq!(words(&pool), entry.pool);
+    refused(&entry, Call::CopyFrom { target: 0, source: 1, start: 2, end: 2, position: 0 }, 4);
 }
 
 /// Every row of the tables has its test here, and every test its row.
