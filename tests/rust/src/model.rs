@@ -542,19 +542,19 @@ fn accepted(world: &World) -> Option<Vec<Block>> {
     }
     let mut covered = vec![false; world.used as usize];
     for block in &blocks {
-        for word in block.start..block.start + block.words {
-            if covered[word] {
+        for word in &mut covered[block.start..block.start + block.words] {
+            if *word {
                 return None;
             }
-            covered[word] = true;
+            *word = true;
         }
     }
     covered.into_iter().all(|word| word).then_some(blocks)
 }
 
-/// "Accepted, the map says at a block's first group of four words slot + 1 (live) or 2,147,483,648
-/// + class (free), at its other groups 0. Map words past used / 4 stay." "with 9 the first used / 4
-/// map words become 0".
+/// "Accepted, the map says at a block's first group of four words slot + 1 (live) or
+/// 2,147,483,648 + class (free), at its other groups 0. Map words past used / 4 stay." "with 9 the
+/// first used / 4 map words become 0".
 fn write_map(world: &mut World, blocks: &[Block]) {
     let groups = world.used as usize / 4;
     world.map[..groups].fill(0);
