@@ -581,6 +581,7 @@ fn row_43_a_free_block_that_overlaps_the_list_that_moves_to_it() {
     let (mut pool, mut lists) = original(&entry);
     panics("out of range", || lists[0].push(Word(8), &mut pool));
     assert_eq!(pool.heads()[2], 0);
+    refused(&entry, Call::Audit { map_words: 4 }, 9);
     let after = done(&entry, Call::Push { slot: 0, element: 8 }, 7);
     assert_eq!(after.pool, [8, 1, 2, 3, 0, 0, 6, 7, 8, 5, 6, 7, M, M, M, M]);
 }
