@@ -35,7 +35,7 @@ fn main() {
     if told("CARGO_CFG_TARGET_ARCH") != "x86_64" {
         stop(&format!(
             "maaliskur: libmaaliskur.a is code for x86-64, and this is a build for {}.\n\
-             Build for it with --target x86_64-unknown-linux-gnu.",
+             Build with --target x86_64-unknown-linux-gnu.",
             told("TARGET")
         ));
     }
