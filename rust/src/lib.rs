@@ -8,28 +8,41 @@
 //! ```
 //! use maaliskur::{Lists, Refusal};
 //!
-//! let mut pool = [0; 16];
-//! let mut handles = [0; 3];
+//! fn main() -> Result<(), Refusal> {
+//!     let (mut pool, mut handles, mut map) = ([0; 1024], [0; 16], [0; 256]);
+//!     let mut lists = Lists::new(&mut pool, &mut handles)?;
+//!     lists.push(3, 7)?;
+//!     lists.extend(3, &[8, 9])?;
+//!     assert_eq!(lists.as_slice(3), [7, 8, 9]);
+//!     lists.audit(&mut map)
+//! }
+//! ```
+//!
+//! What is refused says why, and what the audit found stands in its map:
+//!
+//! ```
+//! # use maaliskur::{Lists, Refusal};
+//! let (mut pool, mut handles, mut map) = ([0; 16], [0; 3], [5; 4]);
 //! let mut lists = Lists::new(&mut pool, &mut handles)?;
-//!
-//! assert_eq!(lists.push(0, 7)?, 0);
-//! lists.extend(0, &[8, 9])?;
-//! assert_eq!(lists.as_slice(0), [7, 8, 9]);
-//!
-//! assert_eq!(lists.get(0, 3), Err(Refusal::Outside));
+//! assert_eq!(lists.push(3, 7), Err(Refusal::NoSlot));
+//! assert_eq!(lists.push(2, 7), Ok(0));
+//! assert_eq!(lists.get(2, 1), Err(Refusal::Outside));
 //! assert_eq!(lists.from_slice(1, &[1; 16]), Err(Refusal::NoRoom));
-//!
-//! let mut map = [0; 4];
+//! assert_eq!(lists.audit(&mut []), Err(Refusal::ShortMap));
 //! lists.audit(&mut map)?;
-//! assert_eq!(map, [1, 0, 0, 0]);
+//! assert_eq!(map, [3, 5, 5, 5]);
 //! # Ok::<(), Refusal>(())
 //! ```
 //!
 //! To link, the crate needs the archive: `rt staticlib maaliskur` writes it to this repository's
 //! `target/staticlib`, and the environment variable `MAALISKUR_LIB_DIR` names any other folder.
+//! The feature `std` makes a [`Refusal`] a `std::error::Error`.
 
 #![no_std]
 #![warn(missing_docs)]
+
+#[cfg(feature = "std")]
+extern crate std;
 
 mod refusal;
 pub mod sys;

@@ -20,8 +20,8 @@ pub enum Refusal {
     Clash = 5,
     /// A block is needed, and the head of its class is not locally sound.
     BadHead = 6,
-    /// A block is needed, and there is none: no free one of its class, and too few words behind the
-    /// used ones.
+    /// A block is needed, and there is none: the list would be longer than [`LONGEST`](crate::LONGEST),
+    /// or no block of its class is free and there are too few words behind the used ones.
     NoRoom = 7,
     /// The audit's map is shorter than a quarter of the used count.
     ShortMap = 8,
@@ -68,15 +68,23 @@ impl fmt::Display for Refusal {
     /// Says in words why the call is refused.
     fn fmt(&self, f: &mut fmt::Formatter<'_>) -> fmt::Result {
         f.write_str(match self {
-            Refusal::OverLimit => "the pool, the table or the used count is over its limit",
+            Refusal::OverLimit => {
+                "the pool has over 65536 words, the table over 16384 handles, \
+                 or the used count is not a multiple of 4 within the pool"
+            }
             Refusal::NoSlot => "there is no such slot in the table",
-            Refusal::BadHandle => "a handle is not sound",
+            Refusal::BadHandle => "a handle is not sound: it names no list of the pool",
             Refusal::Outside => "a position or range lies outside the list",
-            Refusal::Clash => "the slots clash",
+            Refusal::Clash => {
+                "the slots clash: the one to be filled is not empty, or both are one list"
+            }
             Refusal::BadHead => "the head of the free blocks of the size needed is not sound",
             Refusal::NoRoom => "there is no room for the block needed",
-            Refusal::ShortMap => "the map is too short for the words used",
+            Refusal::ShortMap => "the map is shorter than a quarter of the used words",
             Refusal::NotSound => "the pool is not sound",
         })
     }
 }
+
+#[cfg(feature = "std")]
+impl std::error::Error for Refusal {}

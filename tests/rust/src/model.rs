@@ -25,12 +25,12 @@ const FREE: u32 = 2_147_483_648;
 // ---- the state
 
 /// "Class of a length n: 30 minus the leading zeros of (n or 3) as 32 bits."
-fn class(length: u32) -> usize {
+pub fn class(length: u32) -> usize {
     30 - (length | 3).leading_zeros() as usize
 }
 
 /// "Size of class c: 4 shifted left by c."
-fn size(class: usize) -> u128 {
+pub fn size(class: usize) -> u128 {
     4 << class
 }
 
@@ -542,19 +542,19 @@ fn accepted(world: &World) -> Option<Vec<Block>> {
     }
     let mut covered = vec![false; world.used as usize];
     for block in &blocks {
-        for word in block.start..block.start + block.words {
-            if covered[word] {
+        for word in &mut covered[block.start..block.start + block.words] {
+            if *word {
                 return None;
             }
-            covered[word] = true;
+            *word = true;
         }
     }
     covered.into_iter().all(|word| word).then_some(blocks)
 }
 
-/// "Accepted, the map says at a block's first group of four words slot + 1 (live) or 2,147,483,648
-/// + class (free), at its other groups 0. Map words past used / 4 stay." "with 9 the first used / 4
-/// map words become 0".
+/// "Accepted, the map says at a block's first group of four words slot + 1 (live) or
+/// 2,147,483,648 + class (free), at its other groups 0. Map words past used / 4 stay." "with 9 the
+/// first used / 4 map words become 0".
 fn write_map(world: &mut World, blocks: &[Block]) {
     let groups = world.used as usize / 4;
     world.map[..groups].fill(0);

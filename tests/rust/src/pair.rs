@@ -100,10 +100,10 @@ impl Pair {
             return Ok(());
         }
         let (words, slots) = (self.world.pool.len(), self.world.handles.len());
+        let calls: String = self.calls.iter().map(|call| format!("    {call:?}\n")).collect();
         Err(format!(
-            "{}\nafter these calls on a cleared pool of {words} words, {slots} slots:\n{:#?}",
-            what(),
-            self.calls
+            "{}\nafter these calls on a cleared pool of {words} words, {slots} slots:\n{calls}",
+            what()
         ))
     }
 }

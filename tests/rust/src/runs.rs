@@ -3,14 +3,13 @@
 //! The environment variables MAALISKUR_SEED and MAALISKUR_CALLS choose other cases and more of
 //! them; `tests/rust/run` sets them.
 
+use crate::panics::quietly;
 use crate::world::{Call, Outcome};
 use proptest::strategy::Strategy;
 use proptest::test_runner::{Config, RngAlgorithm, TestCaseError, TestError, TestRng, TestRunner};
-use std::cell::{Cell, RefCell};
+use std::cell::RefCell;
 use std::env;
 use std::fmt;
-use std::panic;
-use std::sync::Once;
 
 /// How many calls a property makes where nothing else is said.
 const CALLS: u64 = 1_000_000;
@@ -74,25 +73,6 @@ impl fmt::Display for Tally {
     }
 }
 
-thread_local! {
-    /// Is a case under way? Then a panic of it is put into what the case says, and need not be
-    /// printed while the case is made smaller.
-    static QUIET: Cell<bool> = const { Cell::new(false) };
-}
-
-/// Prints no panic of a case that is under way.
-fn hush() {
-    static ONCE: Once = Once::new();
-    ONCE.call_once(|| {
-        let printed = panic::take_hook();
-        panic::set_hook(Box::new(move |info| {
-            if !QUIET.with(Cell::get) {
-                printed(info);
-            }
-        }));
-    });
-}
-
 /// The random numbers of a seed.
 fn seeded(seed: u64) -> TestRng {
     let mut bytes = [0; 32];
@@ -120,13 +100,15 @@ pub fn run<S: Strategy>(
     };
     let tally = RefCell::new(Tally::default());
     let mut random = seeded(seed);
-    hush();
     while counted(&tally.borrow()) < calls {
         let mut runner = TestRunner::new_with_rng(config.clone(), random);
-        QUIET.with(|quiet| quiet.set(true));
-        let result = runner
-            .run(&cases, |value| case(value, &mut tally.borrow_mut()).map_err(TestCaseError::fail));
-        QUIET.with(|quiet| quiet.set(false));
+        // A panic of a case is put into what the case says, and need not be printed while the
+        // case is made smaller.
+        let result = quietly(|| {
+            runner.run(&cases, |value| {
+                case(value, &mut tally.borrow_mut()).map_err(TestCaseError::fail)
+            })
+        });
         match result {
             Ok(()) => random = runner.new_rng(),
             Err(TestError::Fail(reason, value)) => {

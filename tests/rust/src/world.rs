@@ -1,9 +1,10 @@
 //! What is lent to a call, and the calls as data.
 
+use std::fmt;
 use std::ops::Range;
 
 /// The pool's state and everything lent: what a call may read and write.
-#[derive(Clone, Debug, PartialEq, Eq)]
+#[derive(Clone, PartialEq, Eq)]
 pub struct World {
     /// How many words of the pool are used.
     pub used: u32,
@@ -35,6 +36,38 @@ impl World {
     pub fn rough_length(&self, slot: usize) -> usize {
         let before = self.handles.get(slot).and_then(|&handle| (handle as usize).checked_sub(1));
         before.and_then(|at| self.pool.get(at)).map_or(0, |&length| length as usize)
+    }
+}
+
+/// Words in a report: a run of five and more equal ones is written once, with how many they are.
+struct Words<'a>(&'a [u32]);
+
+impl fmt::Debug for Words<'_> {
+    fn fmt(&self, f: &mut fmt::Formatter<'_>) -> fmt::Result {
+        let mut list = f.debug_list();
+        let mut rest = self.0;
+        while let Some(&word) = rest.first() {
+            let run = rest.iter().take_while(|&&other| other == word).count();
+            if run < 5 {
+                list.entries(&rest[..run]);
+            } else {
+                list.entry(&format_args!("{word} x {run}"));
+            }
+            rest = &rest[run..];
+        }
+        list.finish()
+    }
+}
+
+impl fmt::Debug for World {
+    fn fmt(&self, f: &mut fmt::Formatter<'_>) -> fmt::Result {
+        f.debug_struct("World")
+            .field("used", &self.used)
+            .field("heads", &Words(&self.heads))
+            .field("pool", &Words(&self.pool))
+            .field("handles", &Words(&self.handles))
+            .field("map", &Words(&self.map))
+            .finish()
     }
 }
 
