@@ -2,8 +2,8 @@
 # How long the library's calls take beside the original's (docs/SPEED.md).
 #
 #   bench/speed.sh [PROCESSES]   the tables of times: medians of so many processes, 7 if no number is given; some five minutes
-#   bench/speed.sh --quick       the same of one short process: half a minute, for a first look
-#   bench/speed.sh --counts      the table of instructions, counted by valgrind: some two minutes
+#   bench/speed.sh --quick       the same of one short process: for a first look
+#   bench/speed.sh --counts      the table of instructions, counted by valgrind: some four minutes
 #
 # It proves and builds the archive, builds the benchmark with the cargo at hand, and runs it, on x86-64 only. As root it installs what is
 # missing of Debian's packages. POSIX sh; needs rt on the path.
@@ -51,10 +51,13 @@ if have git && git rev-parse --git-dir >/dev/null 2>&1; then
     git diff --quiet HEAD -- docs/src || die "docs/src is not as committed"
 fi
 
-# ---- the archive and the benchmark. No lock file stays behind: which versions there are is Debian's to say.
-rt staticlib maaliskur >"$out/archive.log" 2>&1 || { cat "$out/archive.log"; die "rt staticlib maaliskur failed"; }
+# ---- the archive, where it is older than a source, and the benchmark. No lock file stays behind: which versions there are is Debian's to say.
+archive=target/staticlib/libmaaliskur.a
+if [ ! -f "$archive" ] || [ -n "$(find crates crates.txt -newer "$archive")" ]; then
+    rt staticlib maaliskur >"$out/archive.log" 2>&1 || { cat "$out/archive.log"; die "rt staticlib maaliskur failed"; }
+fi
 
-# Builds, and prints the file that cargo made.
+# Builds with cargo.
 built() { # WORDS..
     (cd bench/speed && cargo "$@" --offline --message-format short) >"$out/build.log" 2>&1 || { cat "$out/build.log" >&2; die "cargo $1 failed"; }
     rm -f bench/speed/Cargo.lock
@@ -102,11 +105,12 @@ tables() {
                 printf "%-18s %8.1f %8.1f %8.1f %8.1f %8.2f %8.2f %8.2f %8.1f %8.1f %8.2f\n", c, time(c, "c"), time(c, "crate"), time(c, "original"), time(c, "shifting"),
                     ratio(c, "c", "original"), ratio(c, "crate", "original"), ratio(c, "c", "shifting"), least[c, "c"], least[c, "original"], least[c, "c"] / least[c, "original"] }
             printf "\nthe audit, for each used word: %.2f; a plain pass: %.2f; ratio %.1f\n", time("audit", "c"), time("audit", "pass"), ratio("audit", "c", "pass")
-            print "\npush alone: times (medians), and their ratios to the original (medians)"
-            printf "%-18s %10s %10s %10s %10s\n", "", "push 1000", "ratio", "push 8", "ratio"
+            print "\npush alone: times (medians), their ratios to the original (medians), and the least times"
+            printf "%-18s %10s %10s %10s %10s %10s %10s\n", "", "push 1000", "ratio", "push 8", "ratio", "least 1000", "least 8"
             n = split("c,crate,value split,value cut,value judged,value bare,pointer judged,pointer bare,original called,original", forms, ",")
             for (i = 1; i <= n; i++) { s = forms[i]
-                printf "%-18s %10.1f %10.2f %10.1f %10.2f\n", s, time("push 1000", s), ratio("push 1000", s, "original"), time("push 8", s), ratio("push 8", s, "original") }
+                printf "%-18s %10.1f %10.2f %10.1f %10.2f %10.1f %10.1f\n", s, time("push 1000", s), ratio("push 1000", s, "original"), time("push 8", s), ratio("push 8", s, "original"),
+                    least["push 1000", s], least["push 8", s] }
         }'
 }
 
