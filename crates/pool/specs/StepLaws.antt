@@ -6,7 +6,7 @@ use mathlib.Core.Bool.{Bool, true, false, cond, not, _&&_, _||_}
 use mathlib.Core.List.{List}
 use lib.ListN.{length}
 use lib.Dec.{eqb}
-use borrow.Author.Tests.{le-ltb, eq-eqb}
+use borrow.Author.Tests.{le-ltb, eq-eqb, ne-eqb}
 use native.Mathlib.Nat.{eq-zero-or-pos}
 use native.Mathlib.Omega.{arith}
 use Rattle.sizes.specs.Class.{longest, classOf, sizeOf}
@@ -49,6 +49,11 @@ module _ (st : ListPool) (p h a b : ℕ) (can : CanResize st p h a b) where
   stay-ends some m =
       let s = stays a b some m in
       (can .list .some (s .some), omega (arith, can .list .block (s .some), block-fits, ap sizeOf (s .class)))
+
+-- an empty list that gets an element needs a block
+pub needs-first : (a b : ℕ) → a ≡ 0 → 1 ≤ b → needsBlock a b ≡ true
+unfolding needsBlock
+needs-first a b z some = rw (ne-eqb b 0 (omega arith), eq-eqb a 0 z) refl
 
 -- a list that keeps its length needs no block
 pub need-same : (st : ListPool) (ws : List ℕ) (a b : ℕ) → a ≤ longest → b ≡ a → needNumber st ws a b ≡ 0

@@ -8,6 +8,7 @@ use lib.ListN.{length}
 use Rattle.sizes.specs.Class.{longest, classCount, classOf, sizeOf}
 use Rattle.pool.specs.declared.ListPool.{ListPool}
 use Rattle.pool.specs.declared.Block.{Block}
+use Rattle.pool.specs.declared.Said.{Said}
 use Rattle.pool.specs.Numbers.{poolLimit, stateOf, headOf, handleAt, needsBlock}
 use Rattle.pool.specs.Blocks.{Taken, Freed}
 use Rattle.pool.specs.declared.Answer.{Answer}
@@ -80,6 +81,10 @@ taken t heads ws = record { block = t .at; state = stateOf (t .used) heads; word
 
 abbrev pub freed : ℕ → List ℕ → List ℕ → Freed
 freed used heads ws = record { state = stateOf used heads; words = ws }
+
+-- what a step that was lent the heads says, with the heads that it left
+abbrev pub said : Said → List ℕ → Answer
+said r heads = answer (r .number) (r .value) (stateOf (r .used) heads)
 
 -- a step did what the rule says, and the first n elements of the slot's list lie in the pool
 pub record Leaves (p : ℕ) (rule : Outcome) (slot n : ℕ) (r : Answer) (after tabled : List ℕ) : Type 0 where

@@ -2,54 +2,60 @@
 ghost use mathlib.Core.Path.{_≡_};
 ghost use Prim.Native.Nat.{_+_, _≤_};
 ghost use lib.ListN.{length};
+ghost use Rattle.pool.specs.Numbers.{stateOf};
 ghost use Rattle.pool.specs.Rules as rules;
 ghost use Rattle.pool.specs.Rules.{called, outcome, lenOf};
-ghost use Rattle.pool.specs.Steps.{CanCopy, Leaves, Ready};
+ghost use Rattle.pool.specs.Steps.{CanCopy, Leaves, Ready, said};
 use super::Answer;
 use super::ListPool;
+use super::Said;
 use super::numbers;
 use super::steps;
+use sizes::SizeClass;
 
 // What `push` does: the list gets room for one more, and the element is written behind the others.
 fn push_done(
-    state: ListPool,
+    used: u32,
+    heads: &mut [u32; SizeClass::COUNT],
     pool: &mut [u32],
     handles: &mut [u32],
     slot: usize,
     element: u32,
-) -> Answer
-    requires { ⌜ Ready state (now pool) (now handles) slot (lenOf (now pool) (now handles) slot + 1) ⌝ }
-    ensures { λ r. ⌜ Leaves (length (now (pool .entry))) (rules.pushDone state (now (pool .entry)) (now (handles .entry)) slot element) slot (lenOf (now (pool .entry)) (now (handles .entry)) slot + 1) r (now (pool .exit)) (now (handles .exit)) ⌝ }
+) -> Said
+    requires { ⌜ Ready (stateOf used (now heads)) (now pool) (now handles) slot (lenOf (now pool) (now handles) slot + 1) ⌝ }
+    ensures { λ r. ⌜ Leaves (length (now (pool .entry))) (rules.pushDone (stateOf used (now (heads .entry))) (now (pool .entry)) (now (handles .entry)) slot element) slot (lenOf (now (pool .entry)) (now (handles .entry)) slot + 1) (said r (now (heads .exit))) (now (pool .exit)) (now (handles .exit)) ⌝ }
 {
     let h = handles[slot];
     let len = numbers::length_at(pool, h);
-    let answer = steps::resize(state, pool, handles, slot, h, len, len + 1, len);
+    let said = steps::resize(used, heads, pool, handles, slot, h, len, len + 1, len);
     let end = handles[slot] as usize + len as usize;
     pool[end] = element;
-    answer
+    said
 }
 
 // What `extend` does: the list grows, and the elements fill the places opened at its end.
 fn extend_done(
-    state: ListPool,
+    used: u32,
+    heads: &mut [u32; SizeClass::COUNT],
     pool: &mut [u32],
     handles: &mut [u32],
     slot: usize,
     elements: &[u32],
-) -> Answer
-    requires { ⌜ Ready state (now pool) (now handles) slot (lenOf (now pool) (now handles) slot + length (now elements)) ⌝ }
-    ensures { λ r. ⌜ outcome r (now (pool .exit)) (now (handles .exit)) ≡ rules.extendDone state (now (pool .entry)) (now (handles .entry)) slot (now (elements .entry)) ⌝ }
+) -> Said
+    requires { ⌜ Ready (stateOf used (now heads)) (now pool) (now handles) slot (lenOf (now pool) (now handles) slot + length (now elements)) ⌝ }
+    ensures { λ r. ⌜ outcome (said r (now (heads .exit))) (now (pool .exit)) (now (handles .exit)) ≡ rules.extendDone (stateOf used (now (heads .entry))) (now (pool .entry)) (now (handles .entry)) slot (now (elements .entry)) ⌝ }
 {
     let len = numbers::length_at(pool, handles[slot]) as usize;
-    let answer = steps::grow(state, pool, handles, slot, elements.len());
+    let said = steps::grow(used, heads, pool, handles, slot, elements.len());
     let first = handles[slot] as usize;
     words::store(pool, first + len, elements);
-    answer
+    said
 }
 
 // What `copy_from` does: places are opened at the position, and the source's range fills them.
 fn copy_from_done(
-    state: ListPool,
+    used: u32,
+    heads: &mut [u32; SizeClass::COUNT],
     pool: &mut [u32],
     handles: &mut [u32],
     slot: usize,
@@ -57,52 +63,200 @@ fn copy_from_done(
     start: usize,
     end: usize,
     position: usize,
-) -> Answer
-    requires { ⌜ CanCopy state (now pool) (now handles) slot source start end position ⌝ }
-    ensures { λ r. ⌜ outcome r (now (pool .exit)) (now (handles .exit)) ≡ rules.copyFromDone state (now (pool .entry)) (now (handles .entry)) slot source start end position ⌝ }
+) -> Said
+    requires { ⌜ CanCopy (stateOf used (now heads)) (now pool) (now handles) slot source start end position ⌝ }
+    ensures { λ r. ⌜ outcome (said r (now (heads .exit))) (now (pool .exit)) (now (handles .exit)) ≡ rules.copyFromDone (stateOf used (now (heads .entry))) (now (pool .entry)) (now (handles .entry)) slot source start end position ⌝ }
 {
     let from = handles[source] as usize + start;
-    let answer = steps::open(state, pool, handles, slot, position, end - start);
+    let said = steps::open(used, heads, pool, handles, slot, position, end - start);
     let at = handles[slot] as usize + position;
     words::copy(pool, from, at, end - start);
-    answer
+    said
 }
 
 // What `insert` does: the element is pushed, the tail goes up by one, and the element is written at the position.
 fn insert_done(
-    state: ListPool,
+    used: u32,
+    heads: &mut [u32; SizeClass::COUNT],
     pool: &mut [u32],
     handles: &mut [u32],
     slot: usize,
     position: usize,
     element: u32,
-) -> Answer
-    requires { ⌜ (position ≤ lenOf (now pool) (now handles) slot) × (Ready state (now pool) (now handles) slot (lenOf (now pool) (now handles) slot + 1)) ⌝ }
-    ensures { λ r. ⌜ outcome r (now (pool .exit)) (now (handles .exit)) ≡ rules.insertDone state (now (pool .entry)) (now (handles .entry)) slot position element ⌝ }
+) -> Said
+    requires { ⌜ (position ≤ lenOf (now pool) (now handles) slot) × (Ready (stateOf used (now heads)) (now pool) (now handles) slot (lenOf (now pool) (now handles) slot + 1)) ⌝ }
+    ensures { λ r. ⌜ outcome (said r (now (heads .exit))) (now (pool .exit)) (now (handles .exit)) ≡ rules.insertDone (stateOf used (now (heads .entry))) (now (pool .entry)) (now (handles .entry)) slot position element ⌝ }
 {
     let len = numbers::length_at(pool, handles[slot]) as usize;
-    let pushed = push_done(state, pool, handles, slot, element);
+    let pushed = push_done(used, heads, pool, handles, slot, element);
     let at = handles[slot] as usize + position;
     words::shift_up(pool, at, at + 1, len - position);
     pool[at] = element;
-    steps::done(pushed.state, 0)
+    Said {
+        number: 0,
+        value: 0,
+        used: pushed.used,
+    }
+}
+
+// `push` on the used count and the lent heads: refused, or done.
+fn push(
+    used: u32,
+    heads: &mut [u32; SizeClass::COUNT],
+    pool: &mut [u32],
+    handles: &mut [u32],
+    slot: usize,
+    element: u32,
+) -> Said
+    ensures { λ r. ⌜ outcome (said r (now (heads .exit))) (now (pool .exit)) (now (handles .exit)) ≡ called (rules.push slot element) (stateOf used (now (heads .entry))) (now (pool .entry)) (now (handles .entry)) ⌝ }
+{
+    let number = numbers::grow_number(used, heads, pool, handles, slot, 1);
+    if number != 0 {
+        return Said {
+            number,
+            value: 0,
+            used,
+        };
+    }
+    push_done(used, heads, pool, handles, slot, element)
+}
+
+// `extend` on the used count and the lent heads: refused, or done.
+fn extend(
+    used: u32,
+    heads: &mut [u32; SizeClass::COUNT],
+    pool: &mut [u32],
+    handles: &mut [u32],
+    slot: usize,
+    elements: &[u32],
+) -> Said
+    ensures { λ r. ⌜ outcome (said r (now (heads .exit))) (now (pool .exit)) (now (handles .exit)) ≡ called (rules.extend slot (now (elements .entry))) (stateOf used (now (heads .entry))) (now (pool .entry)) (now (handles .entry)) ⌝ }
+{
+    let number = numbers::grow_number(used, heads, pool, handles, slot, elements.len());
+    if number != 0 {
+        return Said {
+            number,
+            value: 0,
+            used,
+        };
+    }
+    extend_done(used, heads, pool, handles, slot, elements)
+}
+
+// `copy_from` on the used count and the lent heads: refused, or done.
+fn copy_from(
+    used: u32,
+    heads: &mut [u32; SizeClass::COUNT],
+    pool: &mut [u32],
+    handles: &mut [u32],
+    slot: usize,
+    source: usize,
+    start: usize,
+    end: usize,
+    position: usize,
+) -> Said
+    ensures { λ r. ⌜ outcome (said r (now (heads .exit))) (now (pool .exit)) (now (handles .exit)) ≡ called (rules.copyFrom slot source start end position) (stateOf used (now (heads .entry))) (now (pool .entry)) (now (handles .entry)) ⌝ }
+{
+    let number = numbers::copy_from_number(
+        used,
+        heads,
+        pool,
+        handles,
+        slot,
+        source,
+        start,
+        end,
+        position,
+    );
+    if number != 0 {
+        return Said {
+            number,
+            value: 0,
+            used,
+        };
+    }
+    copy_from_done(
+        used,
+        heads,
+        pool,
+        handles,
+        slot,
+        source,
+        start,
+        end,
+        position,
+    )
+}
+
+// `insert` on the used count and the lent heads: refused, or done.
+fn insert(
+    used: u32,
+    heads: &mut [u32; SizeClass::COUNT],
+    pool: &mut [u32],
+    handles: &mut [u32],
+    slot: usize,
+    position: usize,
+    element: u32,
+) -> Said
+    ensures { λ r. ⌜ outcome (said r (now (heads .exit))) (now (pool .exit)) (now (handles .exit)) ≡ called (rules.insert slot position element) (stateOf used (now (heads .entry))) (now (pool .entry)) (now (handles .entry)) ⌝ }
+{
+    let number = numbers::grow_at_number(used, heads, pool, handles, slot, position, 1);
+    if number != 0 {
+        return Said {
+            number,
+            value: 0,
+            used,
+        };
+    }
+    insert_done(used, heads, pool, handles, slot, position, element)
+}
+
+// `grow_at` on the used count and the lent heads: refused, or done.
+fn grow_at(
+    used: u32,
+    heads: &mut [u32; SizeClass::COUNT],
+    pool: &mut [u32],
+    handles: &mut [u32],
+    slot: usize,
+    position: usize,
+    count: usize,
+) -> Said
+    ensures { λ r. ⌜ outcome (said r (now (heads .exit))) (now (pool .exit)) (now (handles .exit)) ≡ called (rules.growAt slot position count) (stateOf used (now (heads .entry))) (now (pool .entry)) (now (handles .entry)) ⌝ }
+{
+    let number = numbers::grow_at_number(used, heads, pool, handles, slot, position, count);
+    if number != 0 {
+        return Said {
+            number,
+            value: 0,
+            used,
+        };
+    }
+    steps::open(used, heads, pool, handles, slot, position, count)
 }
 
 impl ListPool {
     // Appends an element to the list in a slot; the value is the old length.
-    pub fn push(self, pool: &mut [u32], handles: &mut [u32], slot: usize, element: u32) -> Answer
+    pub fn push(
+        mut self,
+        pool: &mut [u32],
+        handles: &mut [u32],
+        slot: usize,
+        element: u32,
+    ) -> Answer
         ensures { λ r. ⌜ outcome r (now (pool .exit)) (now (handles .exit)) ≡ called (rules.push slot element) self (now (pool .entry)) (now (handles .entry)) ⌝ }
     {
-        let number = numbers::grow_number(self.used, &self.heads, pool, handles, slot, 1);
-        if number != 0 {
-            return steps::refused(self, number);
+        let said = push(self.used, &mut self.heads, pool, handles, slot, element);
+        self.used = said.used;
+        Answer {
+            number: said.number,
+            value: said.value,
+            state: self,
         }
-        push_done(self, pool, handles, slot, element)
     }
 
     // Appends the elements to the list in a slot.
     pub fn extend(
-        self,
+        mut self,
         pool: &mut [u32],
         handles: &mut [u32],
         slot: usize,
@@ -110,23 +264,18 @@ impl ListPool {
     ) -> Answer
         ensures { λ r. ⌜ outcome r (now (pool .exit)) (now (handles .exit)) ≡ called (rules.extend slot (now (elements .entry))) self (now (pool .entry)) (now (handles .entry)) ⌝ }
     {
-        let number = numbers::grow_number(
-            self.used,
-            &self.heads,
-            pool,
-            handles,
-            slot,
-            elements.len(),
-        );
-        if number != 0 {
-            return steps::refused(self, number);
+        let said = extend(self.used, &mut self.heads, pool, handles, slot, elements);
+        self.used = said.used;
+        Answer {
+            number: said.number,
+            value: said.value,
+            state: self,
         }
-        extend_done(self, pool, handles, slot, elements)
     }
 
     // Copies the elements from start to end of the list in the slot source into the list in a slot, at a position.
     pub fn copy_from(
-        self,
+        mut self,
         pool: &mut [u32],
         handles: &mut [u32],
         slot: usize,
@@ -137,9 +286,9 @@ impl ListPool {
     ) -> Answer
         ensures { λ r. ⌜ outcome r (now (pool .exit)) (now (handles .exit)) ≡ called (rules.copyFrom slot source start end position) self (now (pool .entry)) (now (handles .entry)) ⌝ }
     {
-        let number = numbers::copy_from_number(
+        let said = copy_from(
             self.used,
-            &self.heads,
+            &mut self.heads,
             pool,
             handles,
             slot,
@@ -148,15 +297,17 @@ impl ListPool {
             end,
             position,
         );
-        if number != 0 {
-            return steps::refused(self, number);
+        self.used = said.used;
+        Answer {
+            number: said.number,
+            value: said.value,
+            state: self,
         }
-        copy_from_done(self, pool, handles, slot, source, start, end, position)
     }
 
     // Puts an element at a position of the list in a slot; those from there on shift up.
     pub fn insert(
-        self,
+        mut self,
         pool: &mut [u32],
         handles: &mut [u32],
         slot: usize,
@@ -165,24 +316,26 @@ impl ListPool {
     ) -> Answer
         ensures { λ r. ⌜ outcome r (now (pool .exit)) (now (handles .exit)) ≡ called (rules.insert slot position element) self (now (pool .entry)) (now (handles .entry)) ⌝ }
     {
-        let number = numbers::grow_at_number(
+        let said = insert(
             self.used,
-            &self.heads,
+            &mut self.heads,
             pool,
             handles,
             slot,
             position,
-            1,
+            element,
         );
-        if number != 0 {
-            return steps::refused(self, number);
+        self.used = said.used;
+        Answer {
+            number: said.number,
+            value: said.value,
+            state: self,
         }
-        insert_done(self, pool, handles, slot, position, element)
     }
 
     // Grows the list in a slot by a count at a position; the places that opens keep what stood there.
     pub fn grow_at(
-        self,
+        mut self,
         pool: &mut [u32],
         handles: &mut [u32],
         slot: usize,
@@ -191,18 +344,20 @@ impl ListPool {
     ) -> Answer
         ensures { λ r. ⌜ outcome r (now (pool .exit)) (now (handles .exit)) ≡ called (rules.growAt slot position count) self (now (pool .entry)) (now (handles .entry)) ⌝ }
     {
-        let number = numbers::grow_at_number(
+        let said = grow_at(
             self.used,
-            &self.heads,
+            &mut self.heads,
             pool,
             handles,
             slot,
             position,
             count,
         );
-        if number != 0 {
-            return steps::refused(self, number);
+        self.used = said.used;
+        Answer {
+            number: said.number,
+            value: said.value,
+            state: self,
         }
-        steps::open(self, pool, handles, slot, position, count)
     }
 }

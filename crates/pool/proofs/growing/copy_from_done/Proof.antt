@@ -53,7 +53,7 @@ same-length-2 c = search needs
 returns : tie.Need-returns
 unfolding copyFromDone
 returns c =
-    let a = c .before .before .before .before .before .before .before .before .before .before .before .before .before .before .before .args in
+    let a = c .before .before .before .before .before .before .before .before .before .before .before .before .before .before .before .before .args in
     outcome-written (λ ws hs. copied ws (handleAt (a .handles .now) (a .source) + a .start) (handleAt hs (a .slot) + a .position) (a .end - a .start)) (c .before .before .before .before .before .before .before .before .before .«open» .ensures .is) (c .before .before .copy .ensures)
 
 pub copy-from-done-spec : {M : Type 1} → statement M

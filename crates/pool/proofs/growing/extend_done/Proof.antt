@@ -47,8 +47,8 @@ same-length-2 c = search needs
 returns : tie.Need-returns
 unfolding extendDone
 returns c =
-    let a = c .before .before .before .before .before .before .before .before .before .before .before .before .before .before .before .before .before .before .args in
-    let n = c .before .before .before .before .before .before .before .before .before .before .before .before .length-at in
+    let a = c .before .before .before .before .before .before .before .before .before .before .before .before .before .before .before .before .before .before .before .args in
+    let n = c .before .before .before .before .before .before .before .before .before .before .before .before .before .length-at in
     rw (← n .ensures) (outcome-written (λ ws hs. stored ws (handleAt hs (a .slot) + n .result) (a .elements .now)) (c .before .before .before .before .before .before .before .before .before .grow .ensures .is) (c .before .before .store .ensures))
 
 pub extend-done-spec : {M : Type 1} → statement M

@@ -1,4 +1,6 @@
 -- `push_done` meets its contract.
+use Rattle.pool.specs.Numbers.{stateOf}
+use Rattle.pool.specs.Steps.{said}
 use Rattle.pool.specs.CallLaws.{push-seated}
 use borrow.Author.Needs.{needs}
 use Rattle.pool.proofs.growing.push_done.Statement.{statement}
@@ -17,7 +19,7 @@ add-resize : tie.Need-add-resize
 add-resize c = search needs
 
 resize-requires : tie.Need-resize-requires
-resize-requires c κs = rw (c .before .before .length-at .ensures) (c .before .before .before .before .before .before .before .pre .can, c .before .before .before .before .before .before .before .pre .inside, search needs)
+resize-requires c κs = rw (c .before .before .before .length-at .ensures) (c .before .before .before .before .before .before .before .before .pre .can, c .before .before .before .before .before .before .before .before .pre .inside, search needs)
 
 mul-end : tie.Need-mul-end
 mul-end c = search needs
@@ -48,12 +50,12 @@ same-length-2 c = search needs
 
 returns : tie.Need-returns
 returns c =
-    let a = c .before .before .before .before .before .before .before .before .before .before .before .before .before .args in
+    let a = c .before .before .before .before .before .before .before .before .before .before .before .before .before .before .args in
     let g = c .before .before .before .before .before .resize in
-    rw (c .before .before .before .before .before .before .before .before .length-at .ensures)
+    rw (c .before .before .before .before .before .before .before .before .before .length-at .ensures)
     (record {
-      is = push-seated (a .state) (a .pool .now) (a .handles .now) (a .slot) (a .element) (g .result) (g .last .1 .0) (g .last .1 .1 .0) (c .before .before .before .before .before .before .before .before .before .before .before .before .before .pre .inside) (rw (← c .before .before .before .before .before .before .before .before .length-at .ensures) (g .ensures .is));
-      ends = rw (← c .before .before .before .before .before .before .before .before .length-at .ensures) (g .ensures .ends);
+      is = push-seated (stateOf (a .used) (a .heads .now)) (a .pool .now) (a .handles .now) (a .slot) (a .element) (said (g .result) (g .last .1 .0)) (g .last .1 .1 .0) (g .last .1 .1 .1 .0) (c .before .before .before .before .before .before .before .before .before .before .before .before .before .before .pre .inside) (rw (← c .before .before .before .before .before .before .before .before .before .length-at .ensures) (g .ensures .is));
+      ends = rw (← c .before .before .before .before .before .before .before .before .before .length-at .ensures) (g .ensures .ends);
     })
 
 pub push-done-spec : {M : Type 1} → statement M

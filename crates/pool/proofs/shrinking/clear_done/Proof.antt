@@ -15,8 +15,8 @@ length-at-requires c κs = search needs
 
 cleared-requires : tie.Need-cleared-requires
 cleared-requires c κs =
-    let p = c .before .before .before .before .before .before .before .pre in
-    rw (c .before .before .length-at .ensures) (p .list, p .limits .pool-limit, p .inside)
+    let p = c .before .before .before .before .before .before .before .before .pre in
+    rw (c .before .before .before .length-at .ensures) (p .list, p .limits .pool-limit, p .inside)
 
 same-length : tie.Need-same-length
 same-length c = search needs
@@ -26,7 +26,7 @@ same-length-2 c = search needs
 
 returns : tie.Need-returns
 unfolding clearDone
-returns c = rw (← c .before .before .before .before .before .before .before .length-at .ensures) (c .before .before .before .before .cleared .ensures)
+returns c = rw (← c .before .before .before .before .before .before .before .before .length-at .ensures) (c .before .before .before .before .cleared .ensures)
 
 pub clear-done-spec : {M : Type 1} → statement M
 clear-done-spec =

@@ -1,4 +1,5 @@
 -- `remove_done` meets its contract: the elements behind it shift down, and the last one goes.
+use Rattle.pool.specs.Numbers.{stateOf}
 use Rattle.pool.specs.Rules.{removeDone}
 use Rattle.pool.specs.StepLaws.{can-remove-last}
 use borrow.Author.Needs.{needs}
@@ -36,7 +37,7 @@ shift-down-requires : tie.Need-shift-down-requires
 shift-down-requires c κs = search needs
 
 remove-last-requires : tie.Need-remove-last-requires
-remove-last-requires c κs = let a = c .before .before .before .before .before .before .before .before .before .before .before .args in can-remove-last (a .state) (a .pool .now) (a .handles .now) (a .slot) (a .position) (c .before .before .before .before .before .before .before .before .before .before .before .pre) (c .before .before .before .before .shift-down .kept .0) (c .before .before .before .before .before .before .length-at .ensures)
+remove-last-requires c κs = let a = c .before .before .before .before .before .before .before .before .before .before .before .before .args in can-remove-last (stateOf (a .used) (a .heads .now)) (a .pool .now) (a .handles .now) (a .slot) (a .position) (c .before .before .before .before .before .before .before .before .before .before .before .before .pre) (c .before .before .before .before .before .shift-down .kept .0) (c .before .before .before .before .before .before .before .length-at .ensures)
 
 same-length : tie.Need-same-length
 same-length c = search needs
@@ -46,7 +47,7 @@ same-length-2 c = search needs
 
 returns : tie.Need-returns
 unfolding removeDone
-returns c = rw (← c .before .before .before .before .before .before .before .before .before .before .before .length-at .ensures, ← c .before .before .before .before .before .before .before .before .before .shift-down .ensures) (c .before .before .before .before .remove-last .ensures)
+returns c = rw (← c .before .before .before .before .before .before .before .before .before .before .before .before .length-at .ensures, ← c .before .before .before .before .before .before .before .before .before .before .shift-down .ensures) (c .before .before .before .before .remove-last .ensures)
 
 pub remove-done-spec : {M : Type 1} → statement M
 remove-done-spec =

@@ -2,6 +2,7 @@
 use native.Mathlib.Omega.{arith}
 use mathlib.Core.Path.{_∙_}
 use lib.ListN.{length-set}
+use Rattle.pool.specs.Numbers.{stateOf}
 use Rattle.pool.specs.Rules.{swapRemoveDone}
 use Rattle.pool.specs.StepLaws.{can-remove-last}
 use borrow.Author.Needs.{needs}
@@ -60,17 +61,17 @@ slice-write-pool-2 : tie.Need-slice-write-pool-2
 slice-write-pool-2 c = simp length-set (omega arith)
 
 remove-last-requires : tie.Need-remove-last-requires
-remove-last-requires c κs = let a = c .before .before .before .before .before .before .before .before .before .args in can-remove-last (a .state) (a .pool .now) (a .handles .now) (a .slot) (a .position) (c .before .before .before .before .before .before .before .before .before .pre) (simp length-set) (c .before .before .before .before .length-at .ensures)
+remove-last-requires c κs = let a = c .before .before .before .before .before .before .before .before .before .before .args in can-remove-last (stateOf (a .used) (a .heads .now)) (a .pool .now) (a .handles .now) (a .slot) (a .position) (c .before .before .before .before .before .before .before .before .before .before .pre) (simp length-set) (c .before .before .before .before .before .length-at .ensures)
 
 same-length : tie.Need-same-length
-same-length c = c .before .before .before .before .remove-last .kept .1 .0 ∙ simp length-set
+same-length c = c .before .before .before .before .remove-last .kept .1 .1 .0 ∙ simp length-set
 
 same-length-2 : tie.Need-same-length-2
 same-length-2 c = search needs
 
 returns : tie.Need-returns
 unfolding swapRemoveDone
-returns c = rw (← c .before .before .before .before .before .before .before .before .before .length-at .ensures) (c .before .before .before .before .remove-last .ensures)
+returns c = rw (← c .before .before .before .before .before .before .before .before .before .before .length-at .ensures) (c .before .before .before .before .remove-last .ensures)
 
 pub swap-remove-done-spec : {M : Type 1} → statement M
 swap-remove-done-spec =

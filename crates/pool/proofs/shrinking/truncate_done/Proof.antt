@@ -19,7 +19,7 @@ same-length-2 c = search needs
 
 returns : tie.Need-returns
 unfolding truncateDone
-returns c = rw (eq-eqb (c .before .before .before .before .before .before .before .before .before .before .args .n) 0 (c .before .before .before .before .before .before .before .if1 .taken)) (c .before .before .before .before .clear-done .ensures)
+returns c = rw (eq-eqb (c .before .before .before .before .before .before .before .before .before .before .before .args .n) 0 (c .before .before .before .before .before .before .before .before .if1 .taken)) (c .before .before .before .before .clear-done .ensures)
 
 mul-h : tie.Need-mul-h
 mul-h c = search needs
@@ -33,25 +33,22 @@ length-at-requires c κs = search needs
 cast-if2 : tie.Need-cast-if2
 cast-if2 c = search needs
 
-done-requires : tie.Need-done-requires
-done-requires c κs = search needs
-
 same-length-3 : tie.Need-same-length-3
 same-length-3 c = search needs
 
 returns-2 : tie.Need-returns-2
 unfolding truncateDone
-returns-2 c = rw (ne-eqb (c .before .before .before .before .before .before .before .before .args .n) 0 (c .before .before .before .before .before .if1 .left), ← c .before .before .length-at .ensures, le-leb (c .before .before .length-at .result) (c .before .before .before .before .before .before .before .before .args .n) (c .before .if2 .taken), c .done .ensures)
+returns-2 c = rw (ne-eqb (c .before .before .before .before .before .before .before .args .n) 0 (c .before .before .before .before .if1 .left), ← c .before .length-at .ensures, le-leb (c .before .length-at .result) (c .before .before .before .before .before .before .before .args .n) (c .if2 .taken))
 
 cast-resize : tie.Need-cast-resize
 cast-resize c = search needs
 
 resize-requires : tie.Need-resize-requires
 resize-requires c κs =
-    let a = c .before .before .before .before .before .before .before .before .before .args in
-    let p = c .before .before .before .before .before .before .before .before .before .pre .1 in
+    let a = c .before .before .before .before .before .before .before .before .before .before .args in
+    let p = c .before .before .before .before .before .before .before .before .before .before .pre .1 in
     let least : min (lenOf (a .pool .now) (a .handles .now) (a .slot)) (a .n) ≡ a .n = omega arith in
-    rw (c .before .before .before .length-at .ensures) (rw least at (p .can), p .inside, omega arith)
+    rw (c .before .before .before .before .length-at .ensures) (rw least at (p .can), p .inside, omega arith)
 
 same-length-4 : tie.Need-same-length-4
 same-length-4 c = search needs
@@ -61,7 +58,7 @@ same-length-5 c = search needs
 
 returns-3 : tie.Need-returns-3
 unfolding truncateDone
-returns-3 c = rw (ne-eqb (c .before .before .before .before .before .before .before .before .before .before .before .before .before .before .args .n) 0 (c .before .before .before .before .before .before .before .before .before .before .before .if1 .left), ← c .before .before .before .before .before .before .before .before .length-at .ensures, lt-leb (c .before .before .before .before .before .before .before .before .length-at .result) (c .before .before .before .before .before .before .before .before .before .before .before .before .before .before .args .n) (c .before .before .before .before .before .before .before .if2 .left)) (c .before .before .before .before .resize .ensures .is)
+returns-3 c = rw (ne-eqb (c .before .before .before .before .before .before .before .before .before .before .before .before .before .before .before .args .n) 0 (c .before .before .before .before .before .before .before .before .before .before .before .before .if1 .left), ← c .before .before .before .before .before .before .before .before .before .length-at .ensures, lt-leb (c .before .before .before .before .before .before .before .before .before .length-at .result) (c .before .before .before .before .before .before .before .before .before .before .before .before .before .before .before .args .n) (c .before .before .before .before .before .before .before .before .if2 .left)) (c .before .before .before .before .resize .ensures .is)
 
 pub truncate-done-spec : {M : Type 1} → statement M
 truncate-done-spec =
@@ -75,7 +72,6 @@ truncate-done-spec =
     slice-read-h
     length-at-requires
     cast-if2
-    done-requires
     same-length-3
     returns-2
     cast-resize

@@ -7,12 +7,9 @@ use borrow.Author.Needs.{needs}
 use Rattle.pool.proofs.steps.cleared.Statement.{statement}
 use Rattle.pool.proofs.steps.cleared.Tie as tie
 
-done-requires : tie.Need-done-requires
-done-requires c κs = search needs
-
 returns : tie.Need-returns
 unfolding cleared
-returns c = rw (eq-eqb (c .before .before .before .before .args .h) 0 (c .before .if1 .taken), c .done .ensures)
+returns c = rw (eq-eqb (c .before .before .before .args .h) 0 (c .if1 .taken))
 
 sub-free : tie.Need-sub-free
 sub-free c = search needs
@@ -32,9 +29,6 @@ mul-handles c = search needs
 slice-write-handles : tie.Need-slice-write-handles
 slice-write-handles c = search needs
 
-done-requires-2 : tie.Need-done-requires-2
-done-requires-2 c κs = search needs
-
 same-length : tie.Need-same-length
 same-length c = search needs
 
@@ -44,21 +38,19 @@ same-length-2 c = search needs
 returns-2 : tie.Need-returns-2
 unfolding cleared
 returns-2 c =
-    let a = c .before .before .before .before .before .before .before .before .before .before .args in
-    rw (c .done2 .ensures, ne-eqb (a .h) 0 (c .before .before .before .before .before .before .before .if1 .left), ← c .before .before .before .before .for-length .ensures .is, ← c .before .before .before .free .ensures (a .t1 .used))
+    let a = c .before .before .before .before .before .before .before .before .before .args in
+    rw (ne-eqb (a .h) 0 (c .before .before .before .before .before .before .if1 .left), ← c .before .before .before .for-length .ensures .is, ← c .before .before .free .ensures (a .used))
 
 pub cleared-spec : {M : Type 1} → statement M
 cleared-spec =
     tie.close
     (tie.spec
-    done-requires
     returns
     sub-free
     for-length-requires
     free-requires
     mul-handles
     slice-write-handles
-    done-requires-2
     same-length
     same-length-2
     returns-2)

@@ -53,8 +53,8 @@ same-length-2 c = search needs
 returns : tie.Need-returns
 unfolding opened
 returns c =
-    let a = c .before .before .before .before .before .before .before .before .before .before .before .before .before .before .before .before .before .args in
-    let n = c .before .before .before .before .before .before .before .before .before .before .before .before .length-at in
+    let a = c .before .before .before .before .before .before .before .before .before .before .before .before .before .before .before .before .before .before .args in
+    let n = c .before .before .before .before .before .before .before .before .before .before .before .before .before .length-at in
     record {
       is = rw (← n .ensures) (outcome-written (λ ws hs. copied ws (handleAt hs (a .slot) + a .position) (handleAt hs (a .slot) + a .position + a .count) (n .result - a .position)) (c .before .before .before .before .before .before .before .before .before .grow .ensures .is) (c .before .before .shift-up .ensures));
       ends = c .before .before .before .before .before .before .before .before .before .grow .ensures .ends;

@@ -16,7 +16,7 @@ same-length-2 c = search needs
 
 returns : tie.Need-returns
 unfolding lastRemoved
-returns c = rw (eq-eqb (c .before .before .before .before .before .before .before .before .before .before .args .len) 1 (c .before .before .before .before .before .before .before .if1 .taken)) (c .before .before .before .before .cleared .ensures)
+returns c = rw (eq-eqb (c .before .before .before .before .before .before .before .before .before .before .before .args .len) 1 (c .before .before .before .before .before .before .before .before .if1 .taken)) (c .before .before .before .before .cleared .ensures)
 
 sub-resize : tie.Need-sub-resize
 sub-resize c = search needs
@@ -32,7 +32,7 @@ same-length-4 c = search needs
 
 returns-2 : tie.Need-returns-2
 unfolding lastRemoved
-returns-2 c = rw (ne-eqb (c .before .before .before .before .before .before .before .before .before .before .args .len) 1 (c .before .before .before .before .before .before .before .if1 .left)) (c .before .before .before .before .resize .ensures .is)
+returns-2 c = rw (ne-eqb (c .before .before .before .before .before .before .before .before .before .before .before .args .len) 1 (c .before .before .before .before .before .before .before .before .if1 .left)) (c .before .before .before .before .resize .ensures .is)
 
 pub remove-last-spec : {M : Type 1} → statement M
 remove-last-spec =

@@ -2,10 +2,10 @@
 use Rattle.pool.specs.CallLaws.{seated-leaves}
 use native.Mathlib.Omega.{arith}
 use Prim.Native.Nat.{_-_}
-use mathlib.Core.Path.{sym, _∙_}
+use mathlib.Core.Path.{refl, sym, _∙_}
 use borrow.Author.Tests.{not-true, not-false}
+use Rattle.pool.specs.Numbers.{stateOf}
 use Rattle.pool.specs.Blocks as blocks
-use Rattle.pool.specs.Steps.{taken}
 use Rattle.pool.specs.StepLaws.{stay-ends}
 use borrow.Author.Needs.{needs}
 use Rattle.pool.proofs.steps.resize.Statement.{statement}
@@ -15,16 +15,17 @@ needs-block-requires : tie.Need-needs-block-requires
 needs-block-requires c κs = search needs
 
 sub-seat : tie.Need-sub-seat
-sub-seat c = let a = c .before .before .before .before .before .before .args in stay-ends (a .t1) _ (a .h) (a .len) (a .n) (c .before .before .before .before .before .before .pre .0) (c .before .before .before .before .before .before .pre .2) (sym (c .before .before .before .needs-block .ensures) ∙ not-true _ (c .before .before .if1 .taken)) .0
+sub-seat c =
+    let a = c .before .before .before .before .before .before .args in
+    let stays = sym (c .before .before .before .needs-block .ensures) ∙ not-true _ (c .before .before .if1 .taken) in
+    stay-ends (stateOf (a .used) (a .heads .now)) _ (a .h) (a .len) (a .n) (c .before .before .before .before .before .before .pre .0) (c .before .before .before .before .before .before .pre .2) stays .0
 
 seat-requires : tie.Need-seat-requires
 seat-requires c κs =
     let a = c .before .before .before .before .before .before .args in
-    let e = stay-ends (a .t1) _ (a .h) (a .len) (a .n) (c .before .before .before .before .before .before .pre .0) (c .before .before .before .before .before .before .pre .2) (sym (c .before .before .before .needs-block .ensures) ∙ not-true _ (c .before .before .if1 .taken)) in
+    let stays = sym (c .before .before .before .needs-block .ensures) ∙ not-true _ (c .before .before .if1 .taken) in
+    let e = stay-ends (stateOf (a .used) (a .heads .now)) _ (a .h) (a .len) (a .n) (c .before .before .before .before .before .before .pre .0) (c .before .before .before .before .before .before .pre .2) stays in
     (omega arith, c .before .before .before .before .before .before .pre .0 .limit, c .before .before .before .before .before .before .pre .1)
-
-done-requires : tie.Need-done-requires
-done-requires c κs = search needs
 
 same-length : tie.Need-same-length
 same-length c = search needs
@@ -35,19 +36,13 @@ same-length-2 c = search needs
 returns : tie.Need-returns
 unfolding blocks.moved
 returns c =
-    let a = c .before .before .before .before .before .before .before .before .before .before .before .before .args in
-    let stays = sym (c .before .before .before .before .before .before .before .before .before .needs-block .ensures) ∙ not-true _ (c .before .before .before .before .before .before .before .before .if1 .taken) in
-    let e = stay-ends (a .t1) _ (a .h) (a .len) (a .n) (c .before .before .before .before .before .before .before .before .before .before .before .before .pre .0) (c .before .before .before .before .before .before .before .before .before .before .before .before .pre .2) stays in
-    rw stays (seated-leaves _ (a .value) (record { block = a .h - 1; state = a .t1; words = a .pool .now }) (a .handles .now) (a .slot) (a .n) (c .before .before .before .before .before .before .before .before .before .before .before .before .pre .1) (e .1) (c .done .ensures) (c .before .before .before .before .before .seat .ensures .0) (c .before .before .before .before .before .seat .ensures .1))
+    let a = c .before .before .before .before .before .before .before .before .before .before .before .args in
+    let stays = sym (c .before .before .before .before .before .before .before .before .needs-block .ensures) ∙ not-true _ (c .before .before .before .before .before .before .before .if1 .taken) in
+    let e = stay-ends (stateOf (a .used) (a .heads .now)) _ (a .h) (a .len) (a .n) (c .before .before .before .before .before .before .before .before .before .before .before .pre .0) (c .before .before .before .before .before .before .before .before .before .before .before .pre .2) stays in
+    rw stays (seated-leaves _ (a .value) (record { block = a .h - 1; state = (stateOf (a .used) (a .heads .now)); words = a .pool .now }) (a .handles .now) (a .slot) (a .n) (c .before .before .before .before .before .before .before .before .before .before .before .pre .1) (e .1) refl (c .before .before .before .before .seat .ensures .0) (c .before .before .before .before .seat .ensures .1))
 
-moved-requires : tie.Need-moved-requires
-moved-requires c κs = (c .before .before .before .before .before .before .pre .0, sym (c .before .before .before .needs-block .ensures) ∙ not-false _ (c .before .before .if1 .left))
-
-seat-requires-2 : tie.Need-seat-requires-2
-seat-requires-2 c κs = search needs
-
-done-requires-2 : tie.Need-done-requires-2
-done-requires-2 c κs = search needs
+relocate-requires : tie.Need-relocate-requires
+relocate-requires c κs = (c .before .before .before .before .before .before .before .pre .0, c .before .before .before .before .before .before .before .pre .1, sym (c .before .before .before .before .needs-block .ensures) ∙ not-false _ (c .before .before .before .if1 .left))
 
 same-length-3 : tie.Need-same-length-3
 same-length-3 c = search needs
@@ -56,9 +51,7 @@ same-length-4 : tie.Need-same-length-4
 same-length-4 c = search needs
 
 returns-2 : tie.Need-returns-2
-returns-2 c =
-    let a = c .before .before .before .before .before .before .before .before .before .before .before .before .before .before .before .before .before .args in
-    rw (← c .before .before .before .before .before .before .before .before .before .before .moved .ensures .is) (seated-leaves _ (a .value) (taken (c .before .before .before .before .before .before .before .before .before .before .moved .result) (c .before .before .before .before .before .before .before .before .before .before .moved .last .1 .0) (c .before .before .before .before .before .before .before .before .before .before .moved .last .1 .1 .0)) (a .handles .now) (a .slot) (a .n) (c .before .before .before .before .before .before .before .before .before .before .before .before .before .before .before .before .before .pre .1) (c .before .before .before .before .before .before .before .before .before .before .moved .ensures .ends) (c .done2 .ensures) (c .before .before .before .before .before .seat2 .ensures .0) (c .before .before .before .before .before .seat2 .ensures .1))
+returns-2 c = search needs
 
 pub resize-spec : {M : Type 1} → statement M
 resize-spec =
@@ -67,13 +60,10 @@ resize-spec =
     needs-block-requires
     sub-seat
     seat-requires
-    done-requires
     same-length
     same-length-2
     returns
-    moved-requires
-    seat-requires-2
-    done-requires-2
+    relocate-requires
     same-length-3
     same-length-4
     returns-2)

@@ -1,17 +1,14 @@
 -- `truncate` meets its contract: refused with its number, or done.
 use mathlib.Core.Path.{sym, _∙_}
-use Rattle.pool.specs.Rules.{called, unless, numberOf, doneOf, truncateNumber}
 use Rattle.pool.specs.Facts.{else-first, entry-facts}
+use Rattle.pool.specs.Rules.{called, unless, numberOf, doneOf, truncateNumber}
 use Rattle.pool.proofs.Tests.{tests}
 use borrow.Author.Needs.{needs}
-use Rattle.pool.proofs.ListPool.truncate.Statement.{statement}
-use Rattle.pool.proofs.ListPool.truncate.Tie as tie
+use Rattle.pool.proofs.shrinking.truncate.Statement.{statement}
+use Rattle.pool.proofs.shrinking.truncate.Tie as tie
 
 truncate-number-requires : tie.Need-truncate-number-requires
 truncate-number-requires c κs = search needs
-
-refused-requires : tie.Need-refused-requires
-refused-requires c κs = search needs
 
 same-length : tie.Need-same-length
 same-length c = search needs
@@ -21,14 +18,14 @@ same-length-2 c = search needs
 
 returns : tie.Need-returns
 unfolding called unless numberOf doneOf
-returns c = search (tests, ← c .before .before .truncate-number .ensures .is, c .refused .ensures)
+returns c = search (tests, ← c .before .truncate-number .ensures .is)
 
 truncate-done-requires : tie.Need-truncate-done-requires
 unfolding truncateNumber
 truncate-done-requires c κs =
     let a = c .before .before .before .before .before .before .before .before .before .before .args in
-    let n = c .before .before .before .truncate-number .ensures in
-    (entry-facts (a .t1 .used) (a .pool .now) (a .handles .now) (a .slot) (else-first _ _ (sym (n .is) ∙ c .before .before .if1 .left)), n .fine (c .before .before .if1 .left))
+    let n = c .before .before .before .before .truncate-number .ensures in
+    (entry-facts (a .used) (a .pool .now) (a .handles .now) (a .slot) (else-first _ _ (sym (n .is) ∙ c .before .before .before .if1 .left)), n .fine (c .before .before .before .if1 .left))
 
 same-length-3 : tie.Need-same-length-3
 same-length-3 c = search needs
@@ -38,14 +35,13 @@ same-length-4 c = search needs
 
 returns-2 : tie.Need-returns-2
 unfolding called unless numberOf doneOf
-returns-2 c = search (tests, ← c .before .before .before .before .before .before .before .before .truncate-number .ensures .is, ← c .before .before .before .before .truncate-done .ensures)
+returns-2 c = search (tests, ← c .before .before .before .before .before .before .before .before .before .truncate-number .ensures .is, ← c .before .before .before .before .truncate-done .ensures)
 
 pub truncate-spec : {M : Type 1} → statement M
 truncate-spec =
     tie.close
     (tie.spec
     truncate-number-requires
-    refused-requires
     same-length
     same-length-2
     returns
