@@ -42,7 +42,7 @@ function note_error(place) {
     if (!(place in fact) && !shape(text) && text !~ /was not admitted/) fact[place] = text
 }
 function shape(text) {
-    return text ~ /has no `(Need|InvT|MeasureT)-/ || text ~ /has no field/ || text ~ /no field `/ || text ~ /(more|fewer|too many|too few) arguments/ || text ~ /is not a (function|record)/ || text ~ /expects? [0-9]+ arguments/ || text ~ /is not expected here/ || text ~ /projection/
+    return text ~ /has no `(Need|InvT|MeasureT)-/ || text ~ /has no field/ || text ~ /no field `/ || text ~ /(more|fewer|too many|too few) arguments/ || text ~ /is not a (function|record)/ || text ~ /expects? [0-9]+ arguments/ || text ~ /is not expected here/ || text ~ /this pattern needs a function/ || text ~ /projection/
 }
 
 END {

@@ -54,5 +54,5 @@ END {
         member[r, ++members[r]] = f
         row[r, members[r]] = chosen[i]
     }
-    for (r = 1; r <= runs; r++) for (m = 1; m <= members[r]; m++) print r, row[r, m]
+    for (r = 1; r <= runs && (!limit || r <= limit); r++) for (m = 1; m <= members[r]; m++) print r, row[r, m]
 }
