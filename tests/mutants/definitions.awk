@@ -1,6 +1,8 @@
 # Lists the mutants of the definitions in a file of specs: awk -f definitions.awk FILE. A line for each: KIND, NAME, LINE, edits as list.awk has them.
 # `use` lines, comments, signatures and the levels of types are passed over.
 { text = $0 }
+# what the file has in scope: a mutant names nothing else
+text ~ /^use / { scope = scope " " text; gsub(/[{},]/, " ", scope) }
 text ~ /^ *--/ || text ~ /^(use|infix|module|open)/ || text ~ /^ *$/ { next }
 # the definition that a line belongs to: its signature is passed over
 text ~ /^ *(unfoldable |abbrev )(pub )?[^ ]+ .*:/ {
@@ -30,7 +32,8 @@ text ~ /^ *unfolding / { next }
     }
 }
 function mutant(kind, new) { print kind "\t" name "\t" FNR "\t" FNR " " k " " size " " new }
-function each(kind, news,    m, other, j) { m = split(news, other, " "); for (j = 1; j <= m; j++) mutant(kind, other[j]) }
+function in_scope(w) { return w ~ /^_|^[0-9]/ || index(scope " ", " " w " ") || index(scope " ", " _" w "_ ") }
+function each(kind, news,    m, other, j) { m = split(news, other, " "); for (j = 1; j <= m; j++) if (in_scope(other[j])) mutant(kind, other[j]) }
 function token() {
     if (word ~ /^[0-9]+$/) {
         mutant("constant", sprintf("%.0f", word + 1))

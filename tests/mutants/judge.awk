@@ -42,7 +42,7 @@ function note_error(place) {
     if (!(place in fact) && !shape(text) && text !~ /was not admitted/) fact[place] = text
 }
 function shape(text) {
-    return text ~ /has no `(Need|InvT|MeasureT)-/ || text ~ /has no field/ || text ~ /no field `/ || text ~ /(more|fewer|too many|too few) arguments/ || text ~ /is not a (function|record)/ || text ~ /expects? [0-9]+ arguments/ || text ~ /is not expected here/ || text ~ /this pattern needs a function/ || text ~ /projection/
+    return text ~ /has no `(Need|InvT|MeasureT)-/ || text ~ /has no field/ || text ~ /no field `/ || text ~ /(more|fewer|too many|too few) arguments/ || text ~ /is not a (function|record)/ || text ~ /expects? [0-9]+ arguments/ || text ~ /is not expected here/ || text ~ /this pattern needs a function/ || text ~ /: record `[^`]*`$/ || text ~ /projection/
 }
 
 END {
@@ -57,7 +57,7 @@ END {
             v = said[f]
         }
         e = first[place]
-        if (v == "proved") print id[i], "survived", ""
+        if (v == "proved" && (n > 1 || all == "proved")) print id[i], "survived", ""
         else if (v ~ /could not tell/ || v == "open") print id[i], "open", e
         else if (v !~ /not proved|no proof/) print id[i], "open", "no line for this function: " v
         else if (e == "") print id[i], "refused", "no proof is found"
