@@ -1,4 +1,5 @@
 pub mod Audit
+pub mod Rows
 pub mod Sheet
 pub mod Exact
 pub mod Insurer

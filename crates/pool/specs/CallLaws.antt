@@ -24,18 +24,17 @@ seated-leaves p value m hs slot n inside ends e f g =
       ends = rw (g, getD-set-same hs slot (m .block + 1) 0 inside) (omega arith);
     }
 
--- push writes the element after the resize, in the rule before the length
-pub push-seated : (st : ListPool) (ws hs : List ℕ) (slot x : ℕ) (r : Answer) (after tabled : List ℕ) → slot < length hs
-    → outcome r after tabled ≡ seated (lenOf ws hs slot) (moved st ws (handleAt hs slot) (lenOf ws hs slot) (lenOf ws hs slot + 1)) hs slot (lenOf ws hs slot + 1)
-    → outcome r (set after (handleAt tabled slot + lenOf ws hs slot) x) tabled ≡ pushDone st ws hs slot x
+-- push leaves what its rule says, in the block that it ends in: its own, or one that was taken
+pub push-leaves : (p : ℕ) (st : ListPool) (ws hs : List ℕ) (slot x len : ℕ) (m : Taken) {r : Answer} {after tabled : List ℕ} → slot < length hs
+    → len ≡ lenOf ws hs slot → m ≡ moved st ws (handleAt hs slot) len (len + 1) → m .block + (len + 1 + 1) ≤ p
+    → r ≡ answer 0 len (m .state) → after ≡ set (set (m .words) (m .block + (len + 1)) x) (m .block) (len + 1) → tabled ≡ set hs slot (m .block + 1)
+    → Leaves p (pushDone st ws hs slot x) slot (lenOf ws hs slot + 1) r after tabled
 unfolding pushDone
-push-seated st ws hs slot x r after tabled inside e =
-    let n = lenOf ws hs slot in
-    let m = moved st ws (handleAt hs slot) n (n + 1) in
-    let at : handleAt (set hs slot (m .block + 1)) slot ≡ m .block + 1 = getD-set-same hs slot (m .block + 1) 0 inside in
-    let place : m .block + 1 + n ≡ m .block + (n + 1) = omega arith in
-    ap (λ (o : Outcome). outcome (o .answer) (set (o .words) (handleAt (o .handles) slot + n) x) (o .handles)) e
-    ∙ rw (at, place) (ap (λ (w : List ℕ). outcome (answer 0 n (m .state)) w (set hs slot (m .block + 1))) (set-comm (m .words) (m .block) (m .block + (n + 1)) (n + 1) x (omega arith)))
+push-leaves p st ws hs slot x len m inside l e ends re ae te =
+    record {
+      is = rw (← l, ← e, re, ae, te);
+      ends = rw (te, getD-set-same hs slot (m .block + 1) 0 inside) (omega (arith, l));
+    }
 
 -- an empty list can get what no number of an empty list refuses
 pub ready-empty : (st : ListPool) (ws hs : List ℕ) (slot b : ℕ) → Entered (st .used) ws hs slot → handleAt hs slot ≡ 0 → needNumber st ws 0 b ≡ 0

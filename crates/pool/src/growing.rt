@@ -9,28 +9,37 @@ ghost use Rattle.pool.specs.Steps.{CanCopy, Leaves, Ready, said};
 use super::Answer;
 use super::ListPool;
 use super::Said;
+use super::blocks;
 use super::numbers;
 use super::steps;
 use sizes::SizeClass;
 
-// What `push` does: the list gets room for one more, and the element is written behind the others.
+// What `push` does: the element is written behind the others, in the list's block or in another where one is needed; the length is written last.
 fn push_done(
-    used: u32,
-    heads: &mut [u32; SizeClass::COUNT],
+    mut state: ListPool,
     pool: &mut [u32],
     handles: &mut [u32],
     slot: usize,
     element: u32,
-) -> Said
-    requires { ⌜ Ready (stateOf used (now heads)) (now pool) (now handles) slot (lenOf (now pool) (now handles) slot + 1) ⌝ }
-    ensures { λ r. ⌜ Leaves (length (now (pool .entry))) (rules.pushDone (stateOf used (now (heads .entry))) (now (pool .entry)) (now (handles .entry)) slot element) slot (lenOf (now (pool .entry)) (now (handles .entry)) slot + 1) (said r (now (heads .exit))) (now (pool .exit)) (now (handles .exit)) ⌝ }
+) -> Answer
+    requires { ⌜ Ready state (now pool) (now handles) slot (lenOf (now pool) (now handles) slot + 1) ⌝ }
+    ensures { λ r. ⌜ Leaves (length (now (pool .entry))) (rules.pushDone state (now (pool .entry)) (now (handles .entry)) slot element) slot (lenOf (now (pool .entry)) (now (handles .entry)) slot + 1) r (now (pool .exit)) (now (handles .exit)) ⌝ }
 {
     let h = handles[slot];
     let len = numbers::length_at(pool, h);
-    let said = steps::resize(used, heads, pool, handles, slot, h, len, len + 1, len);
-    let end = handles[slot] as usize + len as usize;
-    pool[end] = element;
-    said
+    let n = len as usize + 1;
+    if !numbers::needs_block(len, len + 1) {
+        let at = h as usize - 1;
+        pool[at + n] = element;
+        steps::seat(pool, handles, slot, at, len + 1);
+        return steps::done(state, len);
+    }
+    let t = blocks::moved(state.used, &mut state.heads, pool, h, len, len + 1);
+    state.used = t.used;
+    let block = t.at;
+    pool[block + n] = element;
+    steps::seat(pool, handles, slot, block, len + 1);
+    steps::done(state, len)
 }
 
 // What `extend` does: the list grows, and the elements fill the places opened at its end.
@@ -76,49 +85,22 @@ fn copy_from_done(
 
 // What `insert` does: the element is pushed, the tail goes up by one, and the element is written at the position.
 fn insert_done(
-    used: u32,
-    heads: &mut [u32; SizeClass::COUNT],
+    state: ListPool,
     pool: &mut [u32],
     handles: &mut [u32],
     slot: usize,
     position: usize,
     element: u32,
-) -> Said
-    requires { ⌜ (position ≤ lenOf (now pool) (now handles) slot) × (Ready (stateOf used (now heads)) (now pool) (now handles) slot (lenOf (now pool) (now handles) slot + 1)) ⌝ }
-    ensures { λ r. ⌜ outcome (said r (now (heads .exit))) (now (pool .exit)) (now (handles .exit)) ≡ rules.insertDone (stateOf used (now (heads .entry))) (now (pool .entry)) (now (handles .entry)) slot position element ⌝ }
+) -> Answer
+    requires { ⌜ (position ≤ lenOf (now pool) (now handles) slot) × (Ready state (now pool) (now handles) slot (lenOf (now pool) (now handles) slot + 1)) ⌝ }
+    ensures { λ r. ⌜ outcome r (now (pool .exit)) (now (handles .exit)) ≡ rules.insertDone state (now (pool .entry)) (now (handles .entry)) slot position element ⌝ }
 {
     let len = numbers::length_at(pool, handles[slot]) as usize;
-    let pushed = push_done(used, heads, pool, handles, slot, element);
+    let pushed = push_done(state, pool, handles, slot, element);
     let at = handles[slot] as usize + position;
     words::shift_up(pool, at, at + 1, len - position);
     pool[at] = element;
-    Said {
-        number: 0,
-        value: 0,
-        used: pushed.used,
-    }
-}
-
-// `push` on the used count and the lent heads: refused, or done.
-fn push(
-    used: u32,
-    heads: &mut [u32; SizeClass::COUNT],
-    pool: &mut [u32],
-    handles: &mut [u32],
-    slot: usize,
-    element: u32,
-) -> Said
-    ensures { λ r. ⌜ outcome (said r (now (heads .exit))) (now (pool .exit)) (now (handles .exit)) ≡ called (rules.push slot element) (stateOf used (now (heads .entry))) (now (pool .entry)) (now (handles .entry)) ⌝ }
-{
-    let number = numbers::grow_number(used, heads, pool, handles, slot, 1);
-    if number != 0 {
-        return Said {
-            number,
-            value: 0,
-            used,
-        };
-    }
-    push_done(used, heads, pool, handles, slot, element)
+    steps::done(pushed.state, 0)
 }
 
 // `extend` on the used count and the lent heads: refused, or done.
@@ -188,29 +170,6 @@ fn copy_from(
     )
 }
 
-// `insert` on the used count and the lent heads: refused, or done.
-fn insert(
-    used: u32,
-    heads: &mut [u32; SizeClass::COUNT],
-    pool: &mut [u32],
-    handles: &mut [u32],
-    slot: usize,
-    position: usize,
-    element: u32,
-) -> Said
-    ensures { λ r. ⌜ outcome (said r (now (heads .exit))) (now (pool .exit)) (now (handles .exit)) ≡ called (rules.insert slot position element) (stateOf used (now (heads .entry))) (now (pool .entry)) (now (handles .entry)) ⌝ }
-{
-    let number = numbers::grow_at_number(used, heads, pool, handles, slot, position, 1);
-    if number != 0 {
-        return Said {
-            number,
-            value: 0,
-            used,
-        };
-    }
-    insert_done(used, heads, pool, handles, slot, position, element)
-}
-
 // `grow_at` on the used count and the lent heads: refused, or done.
 fn grow_at(
     used: u32,
@@ -236,22 +195,14 @@ fn grow_at(
 
 impl ListPool {
     // Appends an element to the list in a slot; the value is the old length.
-    pub fn push(
-        mut self,
-        pool: &mut [u32],
-        handles: &mut [u32],
-        slot: usize,
-        element: u32,
-    ) -> Answer
+    pub fn push(self, pool: &mut [u32], handles: &mut [u32], slot: usize, element: u32) -> Answer
         ensures { λ r. ⌜ outcome r (now (pool .exit)) (now (handles .exit)) ≡ called (rules.push slot element) self (now (pool .entry)) (now (handles .entry)) ⌝ }
     {
-        let said = push(self.used, &mut self.heads, pool, handles, slot, element);
-        self.used = said.used;
-        Answer {
-            number: said.number,
-            value: said.value,
-            state: self,
+        let number = numbers::push_number(self.used, &self.heads, pool, handles, slot);
+        if number != 0 {
+            return steps::refused(self, number);
         }
+        push_done(self, pool, handles, slot, element)
     }
 
     // Appends the elements to the list in a slot.
@@ -307,7 +258,7 @@ impl ListPool {
 
     // Puts an element at a position of the list in a slot; those from there on shift up.
     pub fn insert(
-        mut self,
+        self,
         pool: &mut [u32],
         handles: &mut [u32],
         slot: usize,
@@ -316,21 +267,19 @@ impl ListPool {
     ) -> Answer
         ensures { λ r. ⌜ outcome r (now (pool .exit)) (now (handles .exit)) ≡ called (rules.insert slot position element) self (now (pool .entry)) (now (handles .entry)) ⌝ }
     {
-        let said = insert(
+        let number = numbers::grow_at_number(
             self.used,
-            &mut self.heads,
+            &self.heads,
             pool,
             handles,
             slot,
             position,
-            element,
+            1,
         );
-        self.used = said.used;
-        Answer {
-            number: said.number,
-            value: said.value,
-            state: self,
+        if number != 0 {
+            return steps::refused(self, number);
         }
+        insert_done(self, pool, handles, slot, position, element)
     }
 
     // Grows the list in a slot by a count at a position; the places that opens keep what stood there.

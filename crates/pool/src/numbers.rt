@@ -147,6 +147,24 @@ pub fn grow_number(
     more_number(used, heads, pool, length_at(pool, handles[slot]), count)
 }
 
+// The number of `push`.
+pub fn push_number(
+    used: u32,
+    heads: &[u32; SizeClass::COUNT],
+    pool: &[u32],
+    handles: &[u32],
+    slot: usize,
+) -> u32
+    ensures { λ r. ⌜ Gives (rules.growNumber (stateOf used (now (heads .entry))) (now (pool .entry)) (now (handles .entry)) slot 1) (Ready (stateOf used (now (heads .entry))) (now (pool .entry)) (now (handles .entry)) slot (lenOf (now (pool .entry)) (now (handles .entry)) slot + 1)) r ⌝ }
+{
+    let entry = entry_number(used, pool, handles, slot);
+    if entry != 0 {
+        return entry;
+    }
+    let len = length_at(pool, handles[slot]);
+    need_number(used, heads, pool, len, len + 1)
+}
+
 // The number of a call on the element at a position of the list in a slot.
 pub fn at_number(used: u32, pool: &[u32], handles: &[u32], slot: usize, position: usize) -> u32
     ensures { λ r. ⌜ Gives (rules.atNumber used (now (pool .entry)) (now (handles .entry)) slot position) (HasAt (now (pool .entry)) (now (handles .entry)) slot position) r ⌝ }

@@ -38,7 +38,7 @@ pub fn done(state: ListPool, value: u32) -> Answer
 }
 
 // A list of n elements lies in a block: its length, and its handle.
-fn seat(pool: &mut [u32], handles: &mut [u32], slot: usize, block: usize, n: u32)
+pub fn seat(pool: &mut [u32], handles: &mut [u32], slot: usize, block: usize, n: u32)
     requires { ⌜ (block < length (now pool)) × (length (now pool) ≤ poolLimit) × (slot < length (now handles)) ⌝ }
     ensures { λ r. ⌜ (now (pool .exit) ≡ set (now (pool .entry)) block n) × (now (handles .exit) ≡ set (now (handles .entry)) slot (block + 1)) ⌝ }
 {

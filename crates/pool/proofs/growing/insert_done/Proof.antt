@@ -52,6 +52,9 @@ mul-pool c = search needs
 slice-write-pool : tie.Need-slice-write-pool
 slice-write-pool c = search needs
 
+done-requires : tie.Need-done-requires
+done-requires c κs = search needs
+
 same-length : tie.Need-same-length
 same-length c = simp length-set (omega arith)
 
@@ -63,7 +66,7 @@ unfolding insertDone
 returns c =
     let a = c .before .before .before .before .before .before .before .before .before .before .before .before .before .before .before .before .before .before .args in
     let n = c .before .before .before .before .before .before .before .before .before .before .before .before .before .length-at in
-    rw (c .before .before .shift-up .ensures, ← n .ensures) (ap (λ (o : Outcome). done 0 (o .answer .state) (set (copied (o .words) (handleAt (o .handles) (a .slot) + a .position) (handleAt (o .handles) (a .slot) + a .position + 1) (n .result - a .position)) (handleAt (o .handles) (a .slot) + a .position) (a .element)) (o .handles)) (c .before .before .before .before .before .before .before .before .before .push-done .ensures .is))
+    rw (c .done .ensures, c .before .before .before .shift-up .ensures, ← n .ensures) (ap (λ (o : Outcome). done 0 (o .answer .state) (set (copied (o .words) (handleAt (o .handles) (a .slot) + a .position) (handleAt (o .handles) (a .slot) + a .position + 1) (n .result - a .position)) (handleAt (o .handles) (a .slot) + a .position) (a .element)) (o .handles)) (c .before .before .before .before .before .before .before .before .before .before .push-done .ensures .is))
 
 pub insert-done-spec : {M : Type 1} → statement M
 insert-done-spec =
@@ -83,6 +86,7 @@ insert-done-spec =
     shift-up-requires
     mul-pool
     slice-write-pool
+    done-requires
     same-length
     same-length-2
     returns)

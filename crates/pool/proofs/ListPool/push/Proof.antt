@@ -2,11 +2,14 @@
 use Rattle.pool.specs.Rules.{called, unless, numberOf, doneOf}
 use Rattle.pool.proofs.Tests.{tests}
 use borrow.Author.Needs.{needs}
-use Rattle.pool.proofs.growing.push.Statement.{statement}
-use Rattle.pool.proofs.growing.push.Tie as tie
+use Rattle.pool.proofs.ListPool.push.Statement.{statement}
+use Rattle.pool.proofs.ListPool.push.Tie as tie
 
-grow-number-requires : tie.Need-grow-number-requires
-grow-number-requires c κs = search needs
+push-number-requires : tie.Need-push-number-requires
+push-number-requires c κs = search needs
+
+refused-requires : tie.Need-refused-requires
+refused-requires c κs = search needs
 
 same-length : tie.Need-same-length
 same-length c = search needs
@@ -16,10 +19,10 @@ same-length-2 c = search needs
 
 returns : tie.Need-returns
 unfolding called unless numberOf doneOf
-returns c = search (tests, ← c .before .grow-number .ensures .is)
+returns c = search (tests, ← c .before .before .push-number .ensures .is, c .refused .ensures)
 
 push-done-requires : tie.Need-push-done-requires
-push-done-requires c κs = c .before .before .before .before .grow-number .ensures .fine (c .before .before .before .if1 .left)
+push-done-requires c κs = c .before .before .before .push-number .ensures .fine (c .before .before .if1 .left)
 
 same-length-3 : tie.Need-same-length-3
 same-length-3 c = search needs
@@ -29,13 +32,14 @@ same-length-4 c = search needs
 
 returns-2 : tie.Need-returns-2
 unfolding called unless numberOf doneOf
-returns-2 c = search (tests, ← c .before .before .before .before .before .before .before .before .before .grow-number .ensures .is, ← c .before .before .before .before .push-done .ensures .is)
+returns-2 c = search (tests, ← c .before .before .before .before .before .before .before .before .push-number .ensures .is, ← c .before .before .before .before .push-done .ensures .is)
 
 pub push-spec : {M : Type 1} → statement M
 push-spec =
     tie.close
     (tie.spec
-    grow-number-requires
+    push-number-requires
+    refused-requires
     same-length
     same-length-2
     returns
