@@ -1,14 +1,13 @@
--- Rows beside the bench sheet: states that no call leaves.
+-- Rows beside the bench sheet, most of them on states that no call leaves.
 use Prim.Native.Nat.{ℕ}
 use mathlib.Core.Path.{_≡_, refl}
-use mathlib.Core.List.{List, [], _∷_, _++_}
+use mathlib.Core.List.{List, [], _∷_}
 use lib.ListN.{set, replicate}
 use Rattle.sizes.specs.Class.{classCount, classOf, sizeOf, sizeWord}
 use Rattle.words.specs.Runs.{filled, copied, stored}
-use Rattle.pool.specs.Numbers.{_orElse_, stateOf, handleAt, lengthAt, soundHandle, soundHead, given, tooLong, overLimit, entryNumber, entryNumber₂, badHead, noRoom, roomNumber, needsBlock, needNumber}
+use Rattle.pool.specs.Numbers.{_orElse_, stateOf, lengthAt, soundHandle, soundHead, given, tooLong, overLimit, entryNumber, entryNumber₂, badHead, noRoom, roomNumber, needsBlock, needNumber}
 use Rattle.pool.specs.Blocks.{MAX, recycled, fresh, alloc, free, realloc, moved}
-use Rattle.audit.specs.Audit.{Audited, audit, auditNumber, verdict, accepted, swept, groupsAt, classAt, chainsMarked, chainMarked, handlesMarked, andThen, marked}
-use Rattle.pool.specs.Rules.{Outcome, done, refused, Call, len, push, insert, take, truncate, copyFrom, deepClone, clearPool, called, unless, numberOf, doneOf, atNumber, takeNumber, lenDone, takeDone, pushDone, insertDone, cleared, clearDone, lastRemoved, grown, opened, growNumber, extendDone, growAtNumber, growAtDone, truncateNumber, truncateDone, copyFromNumber, copyFromDone, deepCloneNumber, deepCloneDone, clearPoolNumber, clearPoolDone}
+use Rattle.pool.specs.Rules.{Outcome, done, refused, Call, len, push, insert, take, truncate, copyFrom, deepClone, clearPool, called, unless, numberOf, doneOf, atNumber, takeNumber, lenDone, takeDone, pushDone, insertDone, cleared, clearDone, lastRemoved, grown, opened, growNumber, growAtNumber, truncateNumber, truncateDone, copyFromNumber, copyFromDone, deepCloneNumber, deepCloneDone, clearPoolNumber, clearPoolDone}
 
 abbrev headed : ℕ → ℕ → List ℕ
 headed a b = set (set (replicate classCount 0) 0 a) 1 b
