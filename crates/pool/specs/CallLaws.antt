@@ -1,17 +1,19 @@
 -- How the code's steps make up the rules of the calls.
-use Prim.Native.Nat.{ℕ, _+_, _≤_, _<_}
-use mathlib.Core.Path.{_≡_, ap, _∙_}
+use Prim.Native.Nat.{ℕ, _+_, _-_, _≤_, _<_}
+use mathlib.Core.Path.{_≡_, refl, ap, _∙_}
+use mathlib.Core.Logic.{⊎-elim}
 use mathlib.Core.List.{List}
 use lib.ListN.{length, set}
-use lib.Seq.{getD-set-same, set-comm}
-use native.Mathlib.Nat.{zero-add}
+use lib.Seq.{getD-set-same}
+use borrow.Author.Tests.{eq-eqb, ne-eqb, le-leb, lt-leb}
+use native.Mathlib.Nat.{eq-zero-or-pos, zero-add}
 use native.Mathlib.Omega.{arith}
 use Rattle.pool.specs.declared.ListPool.{ListPool}
 use Rattle.pool.specs.declared.Answer.{Answer}
 use Rattle.pool.specs.Numbers.{handleAt, needNumber}
 use Rattle.pool.specs.Blocks.{Taken, moved}
-use Rattle.pool.specs.Rules.{Outcome, outcome, answer, lenOf, seated, pushDone}
-use Rattle.pool.specs.Steps.{Leaves, Ready}
+use Rattle.pool.specs.Rules.{Outcome, outcome, answer, done, lenOf, seated, cleared, lastRemoved, grown, clearDone, pushDone, truncateDone}
+use Rattle.pool.specs.Steps.{Leaves, ListAt, Ready, resized}
 use Rattle.pool.specs.Facts.{Entered, ready}
 
 -- a list that was seated in a block that holds it
@@ -35,6 +37,53 @@ push-leaves p st ws hs slot x len m inside l e ends re ae te =
       is = rw (← l, ← e, re, ae, te);
       ends = rw (te, getD-set-same hs slot (m .block + 1) 0 inside) (omega (arith, l));
     }
+
+-- a list that gets at least one element, in the block that it ends in: its own, or one that was taken
+pub resized-leaves : (p : ℕ) (st : ListPool) (ws hs : List ℕ) (slot h n b : ℕ) (m : Taken) {r : Answer} {after tabled : List ℕ} → slot < length hs → (b ≡ 0 → ⊥)
+    → m ≡ moved st ws h n b → m .block + (b + 1) ≤ p
+    → r ≡ answer 0 0 (m .state) → after ≡ set (m .words) (m .block) b → tabled ≡ set hs slot (m .block + 1)
+    → (outcome r after tabled ≡ resized st ws hs slot h n b) × (1 ≤ b → handleAt tabled slot + b ≤ p)
+unfolding resized
+resized-leaves p st ws hs slot h n b m inside some e ends re ae te =
+    let l = seated-leaves p 0 m hs slot b inside ends re ae te in
+    (rw (ne-eqb b 0 some, ← e) (l .is), λ _. l .ends)
+
+-- one element less
+pub last-resized : (st : ListPool) (ws hs : List ℕ) (slot h n : ℕ) → 1 ≤ n → lastRemoved st ws hs slot h n ≡ resized st ws hs slot h n (n - 1)
+unfolding lastRemoved resized
+last-resized st ws hs slot h n some =
+    ⊎-elim
+    (λ z. rw (eq-eqb n 1 (omega arith), eq-eqb (n - 1) 0 z) refl)
+    (λ p. rw (ne-eqb n 1 (omega arith), ne-eqb (n - 1) 0 (omega arith)) refl)
+    (eq-zero-or-pos (n - 1))
+
+-- some elements more, or an empty list's first ones
+pub grown-resized : (st : ListPool) (ws hs : List ℕ) (slot count : ℕ) → (lenOf ws hs slot + count ≡ 0 → ⊥)
+    → grown st ws hs slot count ≡ resized st ws hs slot (handleAt hs slot) (lenOf ws hs slot) (lenOf ws hs slot + count)
+unfolding grown resized
+grown-resized st ws hs slot count some = rw (ne-eqb (lenOf ws hs slot + count) 0 some) refl
+
+-- fewer elements
+pub truncate-resized : (st : ListPool) (ws hs : List ℕ) (slot b : ℕ) → b < lenOf ws hs slot
+    → truncateDone st ws hs slot b ≡ resized st ws hs slot (handleAt hs slot) (lenOf ws hs slot) b
+unfolding truncateDone clearDone resized
+truncate-resized st ws hs slot b fewer =
+    ⊎-elim
+    (λ z. rw (eq-eqb b 0 z) refl)
+    (λ p. rw (ne-eqb b 0 (omega arith), lt-leb (lenOf ws hs slot) b fewer) refl)
+    (eq-zero-or-pos b)
+
+-- no fewer: an empty list is truncated to 0 too, and has no block to give up
+pub truncate-none : (p : ℕ) (st : ListPool) (ws hs : List ℕ) (slot b : ℕ) → ListAt p (handleAt hs slot) (lenOf ws hs slot) → lenOf ws hs slot ≤ b
+    → truncateDone st ws hs slot b ≡ done 0 st ws hs
+unfolding truncateDone clearDone cleared
+truncate-none p st ws hs slot b l most =
+    ⊎-elim
+    (λ z.
+    let empty : handleAt hs slot ≡ 0 = ⊎-elim (λ e. e) (λ some. absurd (omega (arith, l .live some))) (eq-zero-or-pos (handleAt hs slot)) in
+    rw (eq-eqb b 0 z, eq-eqb (handleAt hs slot) 0 empty) refl)
+    (λ p. rw (ne-eqb b 0 (omega arith), le-leb (lenOf ws hs slot) b most) refl)
+    (eq-zero-or-pos b)
 
 -- an empty list can get what no number of an empty list refuses
 pub ready-empty : (st : ListPool) (ws hs : List ℕ) (slot b : ℕ) → Entered (st .used) ws hs slot → handleAt hs slot ≡ 0 → needNumber st ws 0 b ≡ 0

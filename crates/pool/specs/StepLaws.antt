@@ -6,7 +6,7 @@ use mathlib.Core.Bool.{Bool, true, false, cond, not, _&&_, _||_}
 use mathlib.Core.List.{List}
 use lib.ListN.{length}
 use lib.Dec.{eqb}
-use borrow.Author.Tests.{le-ltb, eq-eqb, ne-eqb}
+use borrow.Author.Tests.{le-ltb, eq-eqb}
 use native.Mathlib.Nat.{eq-zero-or-pos}
 use native.Mathlib.Omega.{arith}
 use Rattle.sizes.specs.Class.{longest, classOf, sizeOf}
@@ -50,11 +50,6 @@ module _ (st : ListPool) (p h a b : ℕ) (can : CanResize st p h a b) where
       let s = stays a b some m in
       (can .list .some (s .some), omega (arith, can .list .block (s .some), block-fits, ap sizeOf (s .class)))
 
--- an empty list that gets an element needs a block
-pub needs-first : (a b : ℕ) → a ≡ 0 → 1 ≤ b → needsBlock a b ≡ true
-unfolding needsBlock
-needs-first a b z some = rw (ne-eqb b 0 (omega arith), eq-eqb a 0 z) refl
-
 -- a list that keeps its length needs no block
 pub need-same : (st : ListPool) (ws : List ℕ) (a b : ℕ) → a ≤ longest → b ≡ a → needNumber st ws a b ≡ 0
 unfolding needNumber needsBlock
@@ -71,5 +66,5 @@ at-entered used ws hs slot position e z = entry-facts used ws hs slot (else-firs
 
 -- a call that may remove an element can remove the last one, wherever the elements were moved before
 pub can-remove-last : (st : ListPool) (ws hs : List ℕ) (slot position : ℕ) {p n : ℕ} → (HasAt ws hs slot position) × (Ready st ws hs slot (lenOf ws hs slot - 1)) → p ≡ length ws → n ≡ lenOf ws hs slot
-    → (CanResize st p (handleAt hs slot) n (n - 1)) × (1 ≤ n) × (slot < length hs)
-can-remove-last st ws hs slot position f e g = rw (e, g) (f .1 .can, omega (arith, f .0 .before), f .1 .inside)
+    → (CanResize st p (handleAt hs slot) n (n - 1)) × (n - 1 ≡ 0 → 1 ≤ handleAt hs slot) × (slot < length hs)
+can-remove-last st ws hs slot position f e g = rw (e, g) (f .1 .can, (λ _. f .1 .can .list .some (omega (arith, f .0 .before))), f .1 .inside)

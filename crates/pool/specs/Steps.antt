@@ -2,17 +2,17 @@
 -- what the words are, so that it stands whatever was written before. Nobody has to believe this file: the calls' own contracts ask nothing.
 use mathlib.Core.Path.{_≡_}
 use Prim.Native.Nat.{ℕ, _+_, _-_, _≤_, _<_}
-use mathlib.Core.Bool.{true}
+use mathlib.Core.Bool.{true, cond}
 use mathlib.Core.List.{List}
 use lib.ListN.{length}
+use lib.Dec.{eqb}
 use Rattle.sizes.specs.Class.{longest, classCount, classOf, sizeOf}
 use Rattle.pool.specs.declared.ListPool.{ListPool}
 use Rattle.pool.specs.declared.Block.{Block}
-use Rattle.pool.specs.declared.Said.{Said}
 use Rattle.pool.specs.Numbers.{poolLimit, stateOf, headOf, handleAt, needsBlock}
-use Rattle.pool.specs.Blocks.{Taken, Freed}
+use Rattle.pool.specs.Blocks.{Taken, Freed, moved}
 use Rattle.pool.specs.declared.Answer.{Answer}
-use Rattle.pool.specs.Rules.{Call, Outcome, answer, outcome, called, lenOf}
+use Rattle.pool.specs.Rules.{Call, Outcome, answer, outcome, called, cleared, lenOf, seated}
 
 -- a list of n elements at the handle h, in a pool of p words: it is empty at 0 and only there, and its block lies in the pool
 pub record ListAt (p h n : ℕ) : Type 0 where
@@ -82,9 +82,9 @@ taken t heads ws = record { block = t .at; state = stateOf (t .used) heads; word
 abbrev pub freed : ℕ → List ℕ → List ℕ → Freed
 freed used heads ws = record { state = stateOf used heads; words = ws }
 
--- what a step that was lent the heads says, with the heads that it left
-abbrev pub said : Said → List ℕ → Answer
-said r heads = answer (r .number) (r .value) (stateOf (r .used) heads)
+-- the list of n elements at h gets b: it is cleared, or lies in the block for b
+unfoldable pub resized : ListPool → List ℕ → List ℕ → ℕ → ℕ → ℕ → ℕ → Outcome
+resized st ws hs slot h n b = cond (eqb b 0) (cleared st ws hs slot h n) (seated 0 (moved st ws h n b) hs slot b)
 
 -- a step did what the rule says, and the first n elements of the slot's list lie in the pool
 pub record Leaves (p : ℕ) (rule : Outcome) (slot n : ℕ) (r : Answer) (after tabled : List ℕ) : Type 0 where

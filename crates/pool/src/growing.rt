@@ -2,17 +2,14 @@
 ghost use mathlib.Core.Path.{_≡_};
 ghost use Prim.Native.Nat.{_+_, _≤_};
 ghost use lib.ListN.{length};
-ghost use Rattle.pool.specs.Numbers.{stateOf};
 ghost use Rattle.pool.specs.Rules as rules;
 ghost use Rattle.pool.specs.Rules.{called, outcome, lenOf};
-ghost use Rattle.pool.specs.Steps.{CanCopy, Leaves, Ready, said};
+ghost use Rattle.pool.specs.Steps.{CanCopy, Leaves, Ready};
 use super::Answer;
 use super::ListPool;
-use super::Said;
 use super::blocks;
 use super::numbers;
 use super::steps;
-use sizes::SizeClass;
 
 // What `push` does: the element is written behind the others, in the list's block or in another where one is needed; the length is written last.
 fn push_done(
@@ -44,27 +41,25 @@ fn push_done(
 
 // What `extend` does: the list grows, and the elements fill the places opened at its end.
 fn extend_done(
-    used: u32,
-    heads: &mut [u32; SizeClass::COUNT],
+    state: ListPool,
     pool: &mut [u32],
     handles: &mut [u32],
     slot: usize,
     elements: &[u32],
-) -> Said
-    requires { ⌜ Ready (stateOf used (now heads)) (now pool) (now handles) slot (lenOf (now pool) (now handles) slot + length (now elements)) ⌝ }
-    ensures { λ r. ⌜ outcome (said r (now (heads .exit))) (now (pool .exit)) (now (handles .exit)) ≡ rules.extendDone (stateOf used (now (heads .entry))) (now (pool .entry)) (now (handles .entry)) slot (now (elements .entry)) ⌝ }
+) -> Answer
+    requires { ⌜ Ready state (now pool) (now handles) slot (lenOf (now pool) (now handles) slot + length (now elements)) ⌝ }
+    ensures { λ r. ⌜ outcome r (now (pool .exit)) (now (handles .exit)) ≡ rules.extendDone state (now (pool .entry)) (now (handles .entry)) slot (now (elements .entry)) ⌝ }
 {
     let len = numbers::length_at(pool, handles[slot]) as usize;
-    let said = steps::grow(used, heads, pool, handles, slot, elements.len());
+    let grown = steps::grow(state, pool, handles, slot, elements.len());
     let first = handles[slot] as usize;
     words::store(pool, first + len, elements);
-    said
+    grown
 }
 
-// What `copy_from` does: places are opened at the position, and the source's range fills them.
+// What `copy_from` does: the list grows, the tail from the position on goes up, and the source's range fills the places that opens.
 fn copy_from_done(
-    used: u32,
-    heads: &mut [u32; SizeClass::COUNT],
+    state: ListPool,
     pool: &mut [u32],
     handles: &mut [u32],
     slot: usize,
@@ -72,15 +67,18 @@ fn copy_from_done(
     start: usize,
     end: usize,
     position: usize,
-) -> Said
-    requires { ⌜ CanCopy (stateOf used (now heads)) (now pool) (now handles) slot source start end position ⌝ }
-    ensures { λ r. ⌜ outcome (said r (now (heads .exit))) (now (pool .exit)) (now (handles .exit)) ≡ rules.copyFromDone (stateOf used (now (heads .entry))) (now (pool .entry)) (now (handles .entry)) slot source start end position ⌝ }
+) -> Answer
+    requires { ⌜ CanCopy state (now pool) (now handles) slot source start end position ⌝ }
+    ensures { λ r. ⌜ outcome r (now (pool .exit)) (now (handles .exit)) ≡ rules.copyFromDone state (now (pool .entry)) (now (handles .entry)) slot source start end position ⌝ }
 {
     let from = handles[source] as usize + start;
-    let said = steps::open(used, heads, pool, handles, slot, position, end - start);
+    let len = numbers::length_at(pool, handles[slot]) as usize;
+    let count = end - start;
+    let grown = steps::grow(state, pool, handles, slot, count);
     let at = handles[slot] as usize + position;
-    words::copy(pool, from, at, end - start);
-    said
+    words::shift_up(pool, at, at + count, len - position);
+    words::copy(pool, from, at, count);
+    grown
 }
 
 // What `insert` does: the element is pushed, the tail goes up by one, and the element is written at the position.
@@ -103,94 +101,23 @@ fn insert_done(
     steps::done(pushed.state, 0)
 }
 
-// `extend` on the used count and the lent heads: refused, or done.
-fn extend(
-    used: u32,
-    heads: &mut [u32; SizeClass::COUNT],
-    pool: &mut [u32],
-    handles: &mut [u32],
-    slot: usize,
-    elements: &[u32],
-) -> Said
-    ensures { λ r. ⌜ outcome (said r (now (heads .exit))) (now (pool .exit)) (now (handles .exit)) ≡ called (rules.extend slot (now (elements .entry))) (stateOf used (now (heads .entry))) (now (pool .entry)) (now (handles .entry)) ⌝ }
-{
-    let number = numbers::grow_number(used, heads, pool, handles, slot, elements.len());
-    if number != 0 {
-        return Said {
-            number,
-            value: 0,
-            used,
-        };
-    }
-    extend_done(used, heads, pool, handles, slot, elements)
-}
-
-// `copy_from` on the used count and the lent heads: refused, or done.
-fn copy_from(
-    used: u32,
-    heads: &mut [u32; SizeClass::COUNT],
-    pool: &mut [u32],
-    handles: &mut [u32],
-    slot: usize,
-    source: usize,
-    start: usize,
-    end: usize,
-    position: usize,
-) -> Said
-    ensures { λ r. ⌜ outcome (said r (now (heads .exit))) (now (pool .exit)) (now (handles .exit)) ≡ called (rules.copyFrom slot source start end position) (stateOf used (now (heads .entry))) (now (pool .entry)) (now (handles .entry)) ⌝ }
-{
-    let number = numbers::copy_from_number(
-        used,
-        heads,
-        pool,
-        handles,
-        slot,
-        source,
-        start,
-        end,
-        position,
-    );
-    if number != 0 {
-        return Said {
-            number,
-            value: 0,
-            used,
-        };
-    }
-    copy_from_done(
-        used,
-        heads,
-        pool,
-        handles,
-        slot,
-        source,
-        start,
-        end,
-        position,
-    )
-}
-
-// `grow_at` on the used count and the lent heads: refused, or done.
-fn grow_at(
-    used: u32,
-    heads: &mut [u32; SizeClass::COUNT],
+// What `grow_at` does: the list grows, and the tail from the position on goes up.
+fn grow_at_done(
+    state: ListPool,
     pool: &mut [u32],
     handles: &mut [u32],
     slot: usize,
     position: usize,
     count: usize,
-) -> Said
-    ensures { λ r. ⌜ outcome (said r (now (heads .exit))) (now (pool .exit)) (now (handles .exit)) ≡ called (rules.growAt slot position count) (stateOf used (now (heads .entry))) (now (pool .entry)) (now (handles .entry)) ⌝ }
+) -> Answer
+    requires { ⌜ (position ≤ lenOf (now pool) (now handles) slot) × (Ready state (now pool) (now handles) slot (lenOf (now pool) (now handles) slot + count)) ⌝ }
+    ensures { λ r. ⌜ outcome r (now (pool .exit)) (now (handles .exit)) ≡ rules.growAtDone state (now (pool .entry)) (now (handles .entry)) slot position count ⌝ }
 {
-    let number = numbers::grow_at_number(used, heads, pool, handles, slot, position, count);
-    if number != 0 {
-        return Said {
-            number,
-            value: 0,
-            used,
-        };
-    }
-    steps::open(used, heads, pool, handles, slot, position, count)
+    let len = numbers::length_at(pool, handles[slot]) as usize;
+    let grown = steps::grow(state, pool, handles, slot, count);
+    let at = handles[slot] as usize + position;
+    words::shift_up(pool, at, at + count, len - position);
+    grown
 }
 
 impl ListPool {
@@ -207,7 +134,7 @@ impl ListPool {
 
     // Appends the elements to the list in a slot.
     pub fn extend(
-        mut self,
+        self,
         pool: &mut [u32],
         handles: &mut [u32],
         slot: usize,
@@ -215,18 +142,23 @@ impl ListPool {
     ) -> Answer
         ensures { λ r. ⌜ outcome r (now (pool .exit)) (now (handles .exit)) ≡ called (rules.extend slot (now (elements .entry))) self (now (pool .entry)) (now (handles .entry)) ⌝ }
     {
-        let said = extend(self.used, &mut self.heads, pool, handles, slot, elements);
-        self.used = said.used;
-        Answer {
-            number: said.number,
-            value: said.value,
-            state: self,
+        let number = numbers::grow_number(
+            self.used,
+            &self.heads,
+            pool,
+            handles,
+            slot,
+            elements.len(),
+        );
+        if number != 0 {
+            return steps::refused(self, number);
         }
+        extend_done(self, pool, handles, slot, elements)
     }
 
     // Copies the elements from start to end of the list in the slot source into the list in a slot, at a position.
     pub fn copy_from(
-        mut self,
+        self,
         pool: &mut [u32],
         handles: &mut [u32],
         slot: usize,
@@ -237,9 +169,9 @@ impl ListPool {
     ) -> Answer
         ensures { λ r. ⌜ outcome r (now (pool .exit)) (now (handles .exit)) ≡ called (rules.copyFrom slot source start end position) self (now (pool .entry)) (now (handles .entry)) ⌝ }
     {
-        let said = copy_from(
+        let number = numbers::copy_from_number(
             self.used,
-            &mut self.heads,
+            &self.heads,
             pool,
             handles,
             slot,
@@ -248,12 +180,10 @@ impl ListPool {
             end,
             position,
         );
-        self.used = said.used;
-        Answer {
-            number: said.number,
-            value: said.value,
-            state: self,
+        if number != 0 {
+            return steps::refused(self, number);
         }
+        copy_from_done(self, pool, handles, slot, source, start, end, position)
     }
 
     // Puts an element at a position of the list in a slot; those from there on shift up.
@@ -267,15 +197,7 @@ impl ListPool {
     ) -> Answer
         ensures { λ r. ⌜ outcome r (now (pool .exit)) (now (handles .exit)) ≡ called (rules.insert slot position element) self (now (pool .entry)) (now (handles .entry)) ⌝ }
     {
-        let number = numbers::grow_at_number(
-            self.used,
-            &self.heads,
-            pool,
-            handles,
-            slot,
-            position,
-            1,
-        );
+        let number = numbers::insert_number(self.used, &self.heads, pool, handles, slot, position);
         if number != 0 {
             return steps::refused(self, number);
         }
@@ -284,7 +206,7 @@ impl ListPool {
 
     // Grows the list in a slot by a count at a position; the places that opens keep what stood there.
     pub fn grow_at(
-        mut self,
+        self,
         pool: &mut [u32],
         handles: &mut [u32],
         slot: usize,
@@ -293,20 +215,18 @@ impl ListPool {
     ) -> Answer
         ensures { λ r. ⌜ outcome r (now (pool .exit)) (now (handles .exit)) ≡ called (rules.growAt slot position count) self (now (pool .entry)) (now (handles .entry)) ⌝ }
     {
-        let said = grow_at(
+        let number = numbers::grow_at_number(
             self.used,
-            &mut self.heads,
+            &self.heads,
             pool,
             handles,
             slot,
             position,
             count,
         );
-        self.used = said.used;
-        Answer {
-            number: said.number,
-            value: said.value,
-            state: self,
+        if number != 0 {
+            return steps::refused(self, number);
         }
+        grow_at_done(self, pool, handles, slot, position, count)
     }
 }

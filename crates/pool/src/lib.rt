@@ -36,13 +36,6 @@ pub struct Answer {
     pub state: ListPool,
 }
 
-// The same from a step that was lent the heads: the number, the value, and how many words are used after it.
-pub struct Said {
-    pub number: u32,
-    pub value: u32,
-    pub used: u32,
-}
-
 // A block that was taken: where it starts, and how many words are used after that.
 pub struct Block {
     pub at: usize,

@@ -237,7 +237,29 @@ pub fn truncate_number(
     need_number(used, heads, pool, len, n as u32)
 }
 
-// The number of `insert` and `grow_at`.
+// The number of `insert`.
+pub fn insert_number(
+    used: u32,
+    heads: &[u32; SizeClass::COUNT],
+    pool: &[u32],
+    handles: &[u32],
+    slot: usize,
+    position: usize,
+) -> u32
+    ensures { λ r. ⌜ Gives (rules.growAtNumber (stateOf used (now (heads .entry))) (now (pool .entry)) (now (handles .entry)) slot position 1) ((position ≤ lenOf (now (pool .entry)) (now (handles .entry)) slot) × (Ready (stateOf used (now (heads .entry))) (now (pool .entry)) (now (handles .entry)) slot (lenOf (now (pool .entry)) (now (handles .entry)) slot + 1))) r ⌝ }
+{
+    let entry = entry_number(used, pool, handles, slot);
+    if entry != 0 {
+        return entry;
+    }
+    let len = length_at(pool, handles[slot]);
+    if position > len as usize {
+        return 4;
+    }
+    need_number(used, heads, pool, len, len + 1)
+}
+
+// The number of `grow_at`.
 pub fn grow_at_number(
     used: u32,
     heads: &[u32; SizeClass::COUNT],

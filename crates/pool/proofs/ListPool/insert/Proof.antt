@@ -5,8 +5,8 @@ use borrow.Author.Needs.{needs}
 use Rattle.pool.proofs.ListPool.insert.Statement.{statement}
 use Rattle.pool.proofs.ListPool.insert.Tie as tie
 
-grow-at-number-requires : tie.Need-grow-at-number-requires
-grow-at-number-requires c κs = search needs
+insert-number-requires : tie.Need-insert-number-requires
+insert-number-requires c κs = search needs
 
 refused-requires : tie.Need-refused-requires
 refused-requires c κs = search needs
@@ -19,10 +19,10 @@ same-length-2 c = search needs
 
 returns : tie.Need-returns
 unfolding called unless numberOf doneOf
-returns c = search (tests, ← c .before .before .grow-at-number .ensures .is, c .refused .ensures)
+returns c = search (tests, ← c .before .before .insert-number .ensures .is, c .refused .ensures)
 
 insert-done-requires : tie.Need-insert-done-requires
-insert-done-requires c κs = c .before .before .before .grow-at-number .ensures .fine (c .before .before .if1 .left)
+insert-done-requires c κs = c .before .before .before .insert-number .ensures .fine (c .before .before .if1 .left)
 
 same-length-3 : tie.Need-same-length-3
 same-length-3 c = search needs
@@ -32,13 +32,13 @@ same-length-4 c = search needs
 
 returns-2 : tie.Need-returns-2
 unfolding called unless numberOf doneOf
-returns-2 c = search (tests, ← c .before .before .before .before .before .before .before .before .grow-at-number .ensures .is, ← c .before .before .before .before .insert-done .ensures)
+returns-2 c = search (tests, ← c .before .before .before .before .before .before .before .before .insert-number .ensures .is, ← c .before .before .before .before .insert-done .ensures)
 
 pub insert-spec : {M : Type 1} → statement M
 insert-spec =
     tie.close
     (tie.spec
-    grow-at-number-requires
+    insert-number-requires
     refused-requires
     same-length
     same-length-2

@@ -1,6 +1,6 @@
 -- `sound_handle` meets its contract: the tests are the definition's, in its order, and past the pool's end there is no length.
 use native.Mathlib.Omega.{arith}
-use Prim.Native.Nat.{_+_, _-_}
+use Prim.Native.Nat.{_-_}
 use lib.ListN.{List·getD-eq-default}
 use Rattle.pool.specs.Numbers.{soundHandle}
 use Rattle.pool.proofs.Tests.{tests}

@@ -1,4 +1,4 @@
--- `extend_done` meets its contract: the list grows, and the elements are stored in the places that opens.
+-- `extend_done` meets its contract: the list grows, and the elements are stored behind the old ones.
 use Prim.Native.Nat.{_+_}
 use Rattle.words.specs.Runs.{stored}
 use Rattle.pool.specs.Numbers.{handleAt}
@@ -47,8 +47,8 @@ same-length-2 c = search needs
 returns : tie.Need-returns
 unfolding extendDone
 returns c =
-    let a = c .before .before .before .before .before .before .before .before .before .before .before .before .before .before .before .before .before .before .before .args in
-    let n = c .before .before .before .before .before .before .before .before .before .before .before .before .before .length-at in
+    let a = c .before .before .before .before .before .before .before .before .before .before .before .before .before .before .before .before .before .before .args in
+    let n = c .before .before .before .before .before .before .before .before .before .before .before .before .length-at in
     rw (← n .ensures) (outcome-written (λ ws hs. stored ws (handleAt hs (a .slot) + n .result) (a .elements .now)) (c .before .before .before .before .before .before .before .before .before .grow .ensures .is) (c .before .before .store .ensures))
 
 pub extend-done-spec : {M : Type 1} → statement M

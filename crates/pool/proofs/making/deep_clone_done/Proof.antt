@@ -20,7 +20,7 @@ cast-len : tie.Need-cast-len
 cast-len c = search needs
 
 grow-requires : tie.Need-grow-requires
-grow-requires c κs = rw (c .before .before .before .length-at .ensures) (c .before .before .before .before .before .before .before .before .pre .1)
+grow-requires c κs = rw (c .before .before .length-at .ensures) (c .before .before .before .before .before .before .before .pre .1)
 
 mul-at : tie.Need-mul-at
 mul-at c = search needs
@@ -46,8 +46,8 @@ same-length-2 c = search needs
 returns : tie.Need-returns
 unfolding deepCloneDone
 returns c =
-    let a = c .before .before .before .before .before .before .before .before .before .before .before .before .before .before .before .before .before .before .args in
-    let n = c .before .before .before .before .before .before .before .before .before .before .before .before .before .length-at in
+    let a = c .before .before .before .before .before .before .before .before .before .before .before .before .before .before .before .before .before .args in
+    let n = c .before .before .before .before .before .before .before .before .before .before .before .before .length-at in
     rw (← n .ensures) (outcome-written (λ ws hs. copied ws (handleAt (a .handles .now) (a .slot)) (handleAt hs (a .to)) (n .result)) (c .before .before .before .before .before .before .before .before .before .grow .ensures .is) (c .before .before .copy .ensures))
 
 pub deep-clone-done-spec : {M : Type 1} → statement M

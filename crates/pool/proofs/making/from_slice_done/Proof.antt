@@ -31,7 +31,7 @@ same-length-2 c = search needs
 returns : tie.Need-returns
 unfolding fromSliceDone
 returns c =
-    let a = c .before .before .before .before .before .before .before .before .before .before .before .before .before .before .before .before .args in
+    let a = c .before .before .before .before .before .before .before .before .before .before .before .before .before .before .before .args in
     outcome-written (λ ws hs. stored ws (handleAt hs (a .slot)) (a .elements .now)) (c .before .before .before .before .before .before .before .before .before .grow .ensures .is) (c .before .before .store .ensures)
 
 pub from-slice-done-spec : {M : Type 1} → statement M

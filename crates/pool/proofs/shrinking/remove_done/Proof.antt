@@ -1,7 +1,8 @@
--- `remove_done` meets its contract: the elements behind it shift down, and the last one goes.
-use Rattle.pool.specs.Numbers.{stateOf}
+-- `remove_done` meets its contract: the elements behind it shift down, and the last place goes.
+use native.Mathlib.Omega.{arith}
 use Rattle.pool.specs.Rules.{removeDone}
 use Rattle.pool.specs.StepLaws.{can-remove-last}
+use Rattle.pool.specs.CallLaws.{last-resized}
 use borrow.Author.Needs.{needs}
 use Rattle.pool.proofs.shrinking.remove_done.Statement.{statement}
 use Rattle.pool.proofs.shrinking.remove_done.Tie as tie
@@ -36,8 +37,11 @@ sub-shift-down c = search needs
 shift-down-requires : tie.Need-shift-down-requires
 shift-down-requires c κs = search needs
 
-remove-last-requires : tie.Need-remove-last-requires
-remove-last-requires c κs = let a = c .before .before .before .before .before .before .before .before .before .before .before .before .args in can-remove-last (stateOf (a .used) (a .heads .now)) (a .pool .now) (a .handles .now) (a .slot) (a .position) (c .before .before .before .before .before .before .before .before .before .before .before .before .pre) (c .before .before .before .before .before .shift-down .kept .0) (c .before .before .before .before .before .before .before .length-at .ensures)
+sub-resize : tie.Need-sub-resize
+sub-resize c = search needs
+
+resize-requires : tie.Need-resize-requires
+resize-requires c κs = let a = c .before .before .before .before .before .before .before .before .before .before .before .args in can-remove-last (a .state) (a .pool .now) (a .handles .now) (a .slot) (a .position) (c .before .before .before .before .before .before .before .before .before .before .before .pre) (c .before .before .before .before .shift-down .kept .0) (c .before .before .before .before .before .before .length-at .ensures)
 
 same-length : tie.Need-same-length
 same-length c = search needs
@@ -47,7 +51,9 @@ same-length-2 c = search needs
 
 returns : tie.Need-returns
 unfolding removeDone
-returns c = rw (← c .before .before .before .before .before .before .before .before .before .before .before .before .length-at .ensures, ← c .before .before .before .before .before .before .before .before .before .before .shift-down .ensures) (c .before .before .before .before .remove-last .ensures)
+returns c =
+    let a = c .before .before .before .before .before .before .before .before .before .before .before .before .before .before .before .before .args in
+    rw (← c .before .before .before .before .before .before .before .before .before .before .before .length-at .ensures, ← c .before .before .before .before .before .before .before .before .before .shift-down .ensures, last-resized (a .state) (c .before .before .before .before .before .before .before .before .before .shift-down .last .0) (a .handles .now) (a .slot) _ (c .before .before .before .before .before .before .before .before .before .before .before .length-at .result) (omega (arith, c .before .before .before .before .before .before .before .before .before .before .before .length-at .ensures, c .before .before .before .before .before .before .before .before .before .before .before .before .before .before .before .before .pre .0 .before))) (c .before .before .before .before .resize .ensures .0)
 
 pub remove-done-spec : {M : Type 1} → statement M
 remove-done-spec =
@@ -63,7 +69,8 @@ remove-done-spec =
     add-shift-down-2
     sub-shift-down
     shift-down-requires
-    remove-last-requires
+    sub-resize
+    resize-requires
     same-length
     same-length-2
     returns)

@@ -1,10 +1,10 @@
--- `swap_remove_done` meets its contract: it and the last one are exchanged, and the last one goes.
+-- `swap_remove_done` meets its contract: it and the last one are exchanged, and the last place goes.
 use native.Mathlib.Omega.{arith}
 use mathlib.Core.Path.{_∙_}
 use lib.ListN.{length-set}
-use Rattle.pool.specs.Numbers.{stateOf}
 use Rattle.pool.specs.Rules.{swapRemoveDone}
 use Rattle.pool.specs.StepLaws.{can-remove-last}
+use Rattle.pool.specs.CallLaws.{last-resized}
 use borrow.Author.Needs.{needs}
 use Rattle.pool.proofs.shrinking.swap_remove_done.Statement.{statement}
 use Rattle.pool.proofs.shrinking.swap_remove_done.Tie as tie
@@ -60,18 +60,23 @@ mul-pool-3 c = search needs
 slice-write-pool-2 : tie.Need-slice-write-pool-2
 slice-write-pool-2 c = simp length-set (omega arith)
 
-remove-last-requires : tie.Need-remove-last-requires
-remove-last-requires c κs = let a = c .before .before .before .before .before .before .before .before .before .before .args in can-remove-last (stateOf (a .used) (a .heads .now)) (a .pool .now) (a .handles .now) (a .slot) (a .position) (c .before .before .before .before .before .before .before .before .before .before .pre) (simp length-set) (c .before .before .before .before .before .length-at .ensures)
+sub-resize : tie.Need-sub-resize
+sub-resize c = search needs
+
+resize-requires : tie.Need-resize-requires
+resize-requires c κs = let a = c .before .before .before .before .before .before .before .before .before .args in can-remove-last (a .state) (a .pool .now) (a .handles .now) (a .slot) (a .position) (c .before .before .before .before .before .before .before .before .before .pre) (simp length-set) (c .before .before .before .before .length-at .ensures)
 
 same-length : tie.Need-same-length
-same-length c = c .before .before .before .before .remove-last .kept .1 .1 .0 ∙ simp length-set
+same-length c = c .before .before .before .before .resize .kept .1 .0 ∙ simp length-set
 
 same-length-2 : tie.Need-same-length-2
 same-length-2 c = search needs
 
 returns : tie.Need-returns
 unfolding swapRemoveDone
-returns c = rw (← c .before .before .before .before .before .before .before .before .before .before .length-at .ensures) (c .before .before .before .before .remove-last .ensures)
+returns c =
+    let a = c .before .before .before .before .before .before .before .before .before .before .before .before .before .before .args in
+    rw (← c .before .before .before .before .before .before .before .before .before .length-at .ensures, last-resized (a .state) _ (a .handles .now) (a .slot) _ (c .before .before .before .before .before .before .before .before .before .length-at .result) (omega (arith, c .before .before .before .before .before .before .before .before .before .length-at .ensures, c .before .before .before .before .before .before .before .before .before .before .before .before .before .before .pre .0 .before))) (c .before .before .before .before .resize .ensures .0)
 
 pub swap-remove-done-spec : {M : Type 1} → statement M
 swap-remove-done-spec =
@@ -94,7 +99,8 @@ swap-remove-done-spec =
     slice-write-pool
     mul-pool-3
     slice-write-pool-2
-    remove-last-requires
+    sub-resize
+    resize-requires
     same-length
     same-length-2
     returns)

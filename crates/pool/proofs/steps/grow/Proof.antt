@@ -1,9 +1,9 @@
--- `grow` meets its contract: nothing is done where no element is left, an empty list gets a block, and else the list is resized.
+-- `grow` meets its contract: nothing is done where no element is left, and else the list is resized.
 use native.Mathlib.Omega.{arith}
 use Prim.Native.Nat.{_+_}
-use borrow.Author.Tests.{eq-eqb, ne-eqb}
+use borrow.Author.Tests.{eq-eqb}
 use Rattle.pool.specs.Rules.{grown}
-use Rattle.pool.specs.StepLaws.{needs-first}
+use Rattle.pool.specs.CallLaws.{grown-resized}
 use borrow.Author.Needs.{needs}
 use Rattle.pool.proofs.steps.grow.Statement.{statement}
 use Rattle.pool.proofs.steps.grow.Tie as tie
@@ -23,20 +23,23 @@ cast-n c = search needs
 add-n : tie.Need-add-n
 add-n c = search needs
 
+done-requires : tie.Need-done-requires
+done-requires c κs = search needs
+
 same-length : tie.Need-same-length
 same-length c = search needs
 
 returns : tie.Need-returns
 unfolding grown
 returns c =
-    let n = c .before .length-at .ensures in
+    let n = c .before .before .length-at .ensures in
     record {
-      is = rw (← n, eq-eqb (c .before .length-at .result + c .before .before .before .before .before .before .args .count) 0 (c .if1 .taken));
-      ends = rw (← n, c .if1 .taken) (omega (arith, c .before .before .before .before .before .before .pre .can .list .below));
+      is = rw (c .done .ensures, ← n, eq-eqb (c .before .before .length-at .result + c .before .before .before .before .before .before .before .args .count) 0 (c .before .if1 .taken));
+      ends = rw (← n, c .before .if1 .taken) (omega (arith, c .before .before .before .before .before .before .before .pre .can .list .below));
     }
 
-relocate-requires : tie.Need-relocate-requires
-relocate-requires c κs = rw (c .before .before .before .before .before .length-at .ensures) (c .before .before .before .before .before .before .before .before .before .before .pre .can, c .before .before .before .before .before .before .before .before .before .before .pre .inside, rw (← c .before .before .before .before .before .length-at .ensures) (needs-first _ _ (c .before .before .before .if2 .taken) (omega arith)))
+resize-requires : tie.Need-resize-requires
+resize-requires c κs = (rw (c .before .before .before .length-at .ensures) (c .before .before .before .before .before .before .before .before .pre .can), (λ z. absurd (c .before .before .if1 .left z)), c .before .before .before .before .before .before .before .before .pre .inside)
 
 same-length-2 : tie.Need-same-length-2
 same-length-2 c = search needs
@@ -45,21 +48,13 @@ same-length-3 : tie.Need-same-length-3
 same-length-3 c = search needs
 
 returns-2 : tie.Need-returns-2
-unfolding grown
-returns-2 c = rw (← c .before .before .before .before .before .before .before .before .before .before .length-at .ensures, ne-eqb (c .before .before .before .before .before .before .before .before .before .before .length-at .result + c .before .before .before .before .before .before .before .before .before .before .before .before .before .before .before .args .count) 0 (c .before .before .before .before .before .before .before .before .before .if1 .left)) (c .before .before .before .before .relocate .ensures)
-
-resize-requires : tie.Need-resize-requires
-resize-requires c κs = rw (c .before .before .before .before .before .length-at .ensures) (c .before .before .before .before .before .before .before .before .before .before .pre .can, c .before .before .before .before .before .before .before .before .before .before .pre .inside, omega (arith, c .before .before .before .before .before .length-at .ensures))
-
-same-length-4 : tie.Need-same-length-4
-same-length-4 c = search needs
-
-same-length-5 : tie.Need-same-length-5
-same-length-5 c = search needs
-
-returns-3 : tie.Need-returns-3
-unfolding grown
-returns-3 c = rw (← c .before .before .before .before .before .before .before .before .before .before .length-at .ensures, ne-eqb (c .before .before .before .before .before .before .before .before .before .before .length-at .result + c .before .before .before .before .before .before .before .before .before .before .before .before .before .before .before .args .count) 0 (c .before .before .before .before .before .before .before .before .before .if1 .left)) (c .before .before .before .before .resize .ensures)
+returns-2 c =
+    let a = c .before .before .before .before .before .before .before .before .before .before .before .before .before .args in
+    let n = c .before .before .before .before .before .before .before .before .length-at .ensures in
+    record {
+      is = rw (grown-resized (a .state) (a .pool .now) (a .handles .now) (a .slot) (a .count) (rw (← n) (c .before .before .before .before .before .before .before .if1 .left)), ← n) (c .before .before .before .before .resize .ensures .0);
+      ends = rw (← n) (c .before .before .before .before .resize .ensures .1 (omega (arith, c .before .before .before .before .before .before .before .if1 .left)));
+    }
 
 pub grow-spec : {M : Type 1} → statement M
 grow-spec =
@@ -70,13 +65,10 @@ grow-spec =
     length-at-requires
     cast-n
     add-n
+    done-requires
     same-length
     returns
-    relocate-requires
+    resize-requires
     same-length-2
     same-length-3
-    returns-2
-    resize-requires
-    same-length-4
-    same-length-5
-    returns-3)
+    returns-2)

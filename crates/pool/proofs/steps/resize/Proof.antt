@@ -1,31 +1,21 @@
--- `resize` meets its contract: the list stays in its block, or moves.
-use Rattle.pool.specs.CallLaws.{seated-leaves}
+-- `resize` meets its contract: the list is cleared, stays in its block, or moves.
 use native.Mathlib.Omega.{arith}
 use Prim.Native.Nat.{_-_}
 use mathlib.Core.Path.{refl, sym, _∙_}
-use borrow.Author.Tests.{not-true, not-false}
-use Rattle.pool.specs.Numbers.{stateOf}
+use borrow.Author.Tests.{eq-eqb, not-true, not-false}
 use Rattle.pool.specs.Blocks as blocks
+use Rattle.pool.specs.Steps.{resized, taken}
 use Rattle.pool.specs.StepLaws.{stay-ends}
+use Rattle.pool.specs.CallLaws.{resized-leaves}
 use borrow.Author.Needs.{needs}
 use Rattle.pool.proofs.steps.resize.Statement.{statement}
 use Rattle.pool.proofs.steps.resize.Tie as tie
 
-needs-block-requires : tie.Need-needs-block-requires
-needs-block-requires c κs = search needs
+release-requires : tie.Need-release-requires
+release-requires c κs = (c .before .before .before .before .before .before .pre .0 .list, c .before .before .before .before .before .before .pre .1 (c .before .before .before .if1 .taken), c .before .before .before .before .before .before .pre .0 .limit, c .before .before .before .before .before .before .pre .2)
 
-sub-seat : tie.Need-sub-seat
-sub-seat c =
-    let a = c .before .before .before .before .before .before .args in
-    let stays = sym (c .before .before .before .needs-block .ensures) ∙ not-true _ (c .before .before .if1 .taken) in
-    stay-ends (stateOf (a .used) (a .heads .now)) _ (a .h) (a .len) (a .n) (c .before .before .before .before .before .before .pre .0) (c .before .before .before .before .before .before .pre .2) stays .0
-
-seat-requires : tie.Need-seat-requires
-seat-requires c κs =
-    let a = c .before .before .before .before .before .before .args in
-    let stays = sym (c .before .before .before .needs-block .ensures) ∙ not-true _ (c .before .before .if1 .taken) in
-    let e = stay-ends (stateOf (a .used) (a .heads .now)) _ (a .h) (a .len) (a .n) (c .before .before .before .before .before .before .pre .0) (c .before .before .before .before .before .before .pre .2) stays in
-    (omega arith, c .before .before .before .before .before .before .pre .0 .limit, c .before .before .before .before .before .before .pre .1)
+done-requires : tie.Need-done-requires
+done-requires c κs = search needs
 
 same-length : tie.Need-same-length
 same-length c = search needs
@@ -34,15 +24,30 @@ same-length-2 : tie.Need-same-length-2
 same-length-2 c = search needs
 
 returns : tie.Need-returns
-unfolding blocks.moved
+unfolding resized
 returns c =
-    let a = c .before .before .before .before .before .before .before .before .before .before .before .args in
-    let stays = sym (c .before .before .before .before .before .before .before .before .needs-block .ensures) ∙ not-true _ (c .before .before .before .before .before .before .before .if1 .taken) in
-    let e = stay-ends (stateOf (a .used) (a .heads .now)) _ (a .h) (a .len) (a .n) (c .before .before .before .before .before .before .before .before .before .before .before .pre .0) (c .before .before .before .before .before .before .before .before .before .before .before .pre .2) stays in
-    rw stays (seated-leaves _ (a .value) (record { block = a .h - 1; state = (stateOf (a .used) (a .heads .now)); words = a .pool .now }) (a .handles .now) (a .slot) (a .n) (c .before .before .before .before .before .before .before .before .before .before .before .pre .1) (e .1) refl (c .before .before .before .before .seat .ensures .0) (c .before .before .before .before .seat .ensures .1))
+    let a = c .before .before .before .before .before .before .before .before .before .before .before .before .args in
+    (rw (eq-eqb (a .n) 0 (c .before .before .before .before .before .before .before .before .before .if1 .taken), c .done .ensures) (c .before .before .before .before .before .release .ensures (a .t1 .used)), λ some. absurd (omega (arith, c .before .before .before .before .before .before .before .before .before .if1 .taken)))
 
-relocate-requires : tie.Need-relocate-requires
-relocate-requires c κs = (c .before .before .before .before .before .before .before .pre .0, c .before .before .before .before .before .before .before .pre .1, sym (c .before .before .before .before .needs-block .ensures) ∙ not-false _ (c .before .before .before .if1 .left))
+needs-block-requires : tie.Need-needs-block-requires
+needs-block-requires c κs = search needs
+
+sub-seat : tie.Need-sub-seat
+sub-seat c =
+    let a = c .before .before .before .before .before .before .before .args in
+    let stays = sym (c .before .before .before .needs-block .ensures) ∙ not-true _ (c .before .before .if2 .taken) in
+    let e = stay-ends (a .t1) _ (a .h) (a .len) (a .n) (c .before .before .before .before .before .before .before .pre .0) (omega (arith, c .before .before .before .before .if1 .left)) stays in
+    e .0
+
+seat-requires : tie.Need-seat-requires
+seat-requires c κs =
+    let a = c .before .before .before .before .before .before .before .args in
+    let stays = sym (c .before .before .before .needs-block .ensures) ∙ not-true _ (c .before .before .if2 .taken) in
+    let e = stay-ends (a .t1) _ (a .h) (a .len) (a .n) (c .before .before .before .before .before .before .before .pre .0) (omega (arith, c .before .before .before .before .if1 .left)) stays in
+    (omega (arith, e .1), c .before .before .before .before .before .before .before .pre .0 .limit, c .before .before .before .before .before .before .before .pre .2)
+
+done-requires-2 : tie.Need-done-requires-2
+done-requires-2 c κs = search needs
 
 same-length-3 : tie.Need-same-length-3
 same-length-3 c = search needs
@@ -51,19 +56,52 @@ same-length-4 : tie.Need-same-length-4
 same-length-4 c = search needs
 
 returns-2 : tie.Need-returns-2
-returns-2 c = search needs
+unfolding blocks.moved
+returns-2 c =
+    let a = c .before .before .before .before .before .before .before .before .before .before .before .before .before .args in
+    let stays = sym (c .before .before .before .before .before .before .before .before .before .needs-block .ensures) ∙ not-true _ (c .before .before .before .before .before .before .before .before .if2 .taken) in
+    let e = stay-ends (a .t1) _ (a .h) (a .len) (a .n) (c .before .before .before .before .before .before .before .before .before .before .before .before .before .pre .0) (omega (arith, c .before .before .before .before .before .before .before .before .before .before .if1 .left)) stays in
+    resized-leaves _ (a .t1) (a .pool .now) (a .handles .now) (a .slot) (a .h) (a .len) (a .n) (record { block = a .h - 1; state = a .t1; words = a .pool .now }) (c .before .before .before .before .before .before .before .before .before .before .before .before .before .pre .2) (c .before .before .before .before .before .before .before .before .before .before .if1 .left) (rw stays refl) (e .1) (c .done2 .ensures) (c .before .before .before .before .before .seat .ensures .0) (c .before .before .before .before .before .seat .ensures .1)
+
+moved-requires : tie.Need-moved-requires
+moved-requires c κs = (c .before .before .before .before .before .before .before .pre .0, sym (c .before .before .before .needs-block .ensures) ∙ not-false _ (c .before .before .if2 .left))
+
+seat-requires-2 : tie.Need-seat-requires-2
+seat-requires-2 c κs = let e = c .before .before .before .before .moved .ensures .ends in (omega (arith, c .before .before .before .before .moved .kept .1 .1 .0), omega (arith, c .before .before .before .before .moved .kept .1 .1 .0, c .before .before .before .before .before .before .before .before .before .before .before .before .pre .0 .limit), c .before .before .before .before .before .before .before .before .before .before .before .before .pre .2)
+
+done-requires-3 : tie.Need-done-requires-3
+done-requires-3 c κs = search needs
+
+same-length-5 : tie.Need-same-length-5
+same-length-5 c = search needs
+
+same-length-6 : tie.Need-same-length-6
+same-length-6 c = search needs
+
+returns-3 : tie.Need-returns-3
+returns-3 c =
+    let a = c .before .before .before .before .before .before .before .before .before .before .before .before .before .before .before .before .before .before .args in
+    resized-leaves _ (a .t1) (a .pool .now) (a .handles .now) (a .slot) (a .h) (a .len) (a .n) (taken (c .before .before .before .before .before .before .before .before .before .before .moved .result) (c .before .before .before .before .before .before .before .before .before .before .moved .last .1 .0) (c .before .before .before .before .before .before .before .before .before .before .moved .last .1 .1 .0)) (c .before .before .before .before .before .before .before .before .before .before .before .before .before .before .before .before .before .before .pre .2) (c .before .before .before .before .before .before .before .before .before .before .before .before .before .before .before .if1 .left) (c .before .before .before .before .before .before .before .before .before .before .moved .ensures .is) (c .before .before .before .before .before .before .before .before .before .before .moved .ensures .ends) (c .done3 .ensures) (c .before .before .before .before .before .seat2 .ensures .0) (c .before .before .before .before .before .seat2 .ensures .1)
 
 pub resize-spec : {M : Type 1} → statement M
 resize-spec =
     tie.close
     (tie.spec
-    needs-block-requires
-    sub-seat
-    seat-requires
+    release-requires
+    done-requires
     same-length
     same-length-2
     returns
-    relocate-requires
+    needs-block-requires
+    sub-seat
+    seat-requires
+    done-requires-2
     same-length-3
     same-length-4
-    returns-2)
+    returns-2
+    moved-requires
+    seat-requires-2
+    done-requires-3
+    same-length-5
+    same-length-6
+    returns-3)

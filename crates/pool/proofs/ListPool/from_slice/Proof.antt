@@ -2,11 +2,14 @@
 use Rattle.pool.specs.Rules.{called, unless, numberOf, doneOf}
 use Rattle.pool.proofs.Tests.{tests}
 use borrow.Author.Needs.{needs}
-use Rattle.pool.proofs.making.from_slice.Statement.{statement}
-use Rattle.pool.proofs.making.from_slice.Tie as tie
+use Rattle.pool.proofs.ListPool.from_slice.Statement.{statement}
+use Rattle.pool.proofs.ListPool.from_slice.Tie as tie
 
 from-slice-number-requires : tie.Need-from-slice-number-requires
 from-slice-number-requires c κs = search needs
+
+refused-requires : tie.Need-refused-requires
+refused-requires c κs = search needs
 
 same-length : tie.Need-same-length
 same-length c = search needs
@@ -16,10 +19,10 @@ same-length-2 c = search needs
 
 returns : tie.Need-returns
 unfolding called unless numberOf doneOf
-returns c = search (tests, ← c .before .from-slice-number .ensures .is)
+returns c = search (tests, ← c .before .before .from-slice-number .ensures .is, c .refused .ensures)
 
 from-slice-done-requires : tie.Need-from-slice-done-requires
-from-slice-done-requires c κs = c .before .before .before .before .from-slice-number .ensures .fine (c .before .before .before .if1 .left)
+from-slice-done-requires c κs = c .before .before .before .from-slice-number .ensures .fine (c .before .before .if1 .left)
 
 same-length-3 : tie.Need-same-length-3
 same-length-3 c = search needs
@@ -29,13 +32,14 @@ same-length-4 c = search needs
 
 returns-2 : tie.Need-returns-2
 unfolding called unless numberOf doneOf
-returns-2 c = search (tests, ← c .before .before .before .before .before .before .before .before .before .from-slice-number .ensures .is, ← c .before .before .before .before .from-slice-done .ensures)
+returns-2 c = search (tests, ← c .before .before .before .before .before .before .before .before .from-slice-number .ensures .is, ← c .before .before .before .before .from-slice-done .ensures)
 
 pub from-slice-spec : {M : Type 1} → statement M
 from-slice-spec =
     tie.close
     (tie.spec
     from-slice-number-requires
+    refused-requires
     same-length
     same-length-2
     returns

@@ -1,12 +1,15 @@
 -- `grow_at` meets its contract: refused with its number, or done.
-use Rattle.pool.specs.Rules.{called, unless, numberOf, doneOf, growAtDone}
+use Rattle.pool.specs.Rules.{called, unless, numberOf, doneOf}
 use Rattle.pool.proofs.Tests.{tests}
 use borrow.Author.Needs.{needs}
-use Rattle.pool.proofs.growing.grow_at.Statement.{statement}
-use Rattle.pool.proofs.growing.grow_at.Tie as tie
+use Rattle.pool.proofs.ListPool.grow_at.Statement.{statement}
+use Rattle.pool.proofs.ListPool.grow_at.Tie as tie
 
 grow-at-number-requires : tie.Need-grow-at-number-requires
 grow-at-number-requires c κs = search needs
+
+refused-requires : tie.Need-refused-requires
+refused-requires c κs = search needs
 
 same-length : tie.Need-same-length
 same-length c = search needs
@@ -16,10 +19,10 @@ same-length-2 c = search needs
 
 returns : tie.Need-returns
 unfolding called unless numberOf doneOf
-returns c = search (tests, ← c .before .grow-at-number .ensures .is)
+returns c = search (tests, ← c .before .before .grow-at-number .ensures .is, c .refused .ensures)
 
-open-requires : tie.Need-open-requires
-open-requires c κs = c .before .before .before .before .grow-at-number .ensures .fine (c .before .before .before .if1 .left)
+grow-at-done-requires : tie.Need-grow-at-done-requires
+grow-at-done-requires c κs = c .before .before .before .grow-at-number .ensures .fine (c .before .before .if1 .left)
 
 same-length-3 : tie.Need-same-length-3
 same-length-3 c = search needs
@@ -28,18 +31,19 @@ same-length-4 : tie.Need-same-length-4
 same-length-4 c = search needs
 
 returns-2 : tie.Need-returns-2
-unfolding called unless numberOf doneOf growAtDone
-returns-2 c = search (tests, ← c .before .before .before .before .before .before .before .before .before .grow-at-number .ensures .is, ← c .before .before .before .before .«open» .ensures .is)
+unfolding called unless numberOf doneOf
+returns-2 c = search (tests, ← c .before .before .before .before .before .before .before .before .grow-at-number .ensures .is, ← c .before .before .before .before .grow-at-done .ensures)
 
 pub grow-at-spec : {M : Type 1} → statement M
 grow-at-spec =
     tie.close
     (tie.spec
     grow-at-number-requires
+    refused-requires
     same-length
     same-length-2
     returns
-    open-requires
+    grow-at-done-requires
     same-length-3
     same-length-4
     returns-2)

@@ -1,12 +1,12 @@
--- `open` meets its contract: the list grows, and its tail goes up.
+-- `grow_at_done` meets its contract: the list grows, and its tail goes up.
 use Prim.Native.Nat.{_+_, _-_}
 use Rattle.words.specs.Runs.{copied}
 use Rattle.pool.specs.Numbers.{handleAt}
-use Rattle.pool.specs.Rules.{opened}
+use Rattle.pool.specs.Rules.{growAtDone, opened}
 use Rattle.pool.specs.CallLaws.{outcome-written}
 use borrow.Author.Needs.{needs}
-use Rattle.pool.proofs.steps.open.Statement.{statement}
-use Rattle.pool.proofs.steps.open.Tie as tie
+use Rattle.pool.proofs.growing.grow_at_done.Statement.{statement}
+use Rattle.pool.proofs.growing.grow_at_done.Tie as tie
 
 mul-length-at : tie.Need-mul-length-at
 mul-length-at c = search needs
@@ -51,17 +51,14 @@ same-length-2 : tie.Need-same-length-2
 same-length-2 c = search needs
 
 returns : tie.Need-returns
-unfolding opened
+unfolding growAtDone opened
 returns c =
-    let a = c .before .before .before .before .before .before .before .before .before .before .before .before .before .before .before .before .before .before .args in
-    let n = c .before .before .before .before .before .before .before .before .before .before .before .before .before .length-at in
-    record {
-      is = rw (← n .ensures) (outcome-written (λ ws hs. copied ws (handleAt hs (a .slot) + a .position) (handleAt hs (a .slot) + a .position + a .count) (n .result - a .position)) (c .before .before .before .before .before .before .before .before .before .grow .ensures .is) (c .before .before .shift-up .ensures));
-      ends = c .before .before .before .before .before .before .before .before .before .grow .ensures .ends;
-    }
+    let a = c .before .before .before .before .before .before .before .before .before .before .before .before .before .before .before .before .before .args in
+    let n = c .before .before .before .before .before .before .before .before .before .before .before .before .length-at in
+    rw (← n .ensures) (outcome-written (λ ws hs. copied ws (handleAt hs (a .slot) + a .position) (handleAt hs (a .slot) + a .position + a .count) (n .result - a .position)) (c .before .before .before .before .before .before .before .before .before .grow .ensures .is) (c .before .before .shift-up .ensures))
 
-pub open-spec : {M : Type 1} → statement M
-open-spec =
+pub grow-at-done-spec : {M : Type 1} → statement M
+grow-at-done-spec =
     tie.close
     (tie.spec
     mul-length-at

@@ -2,11 +2,14 @@
 use Rattle.pool.specs.Rules.{called, unless, numberOf, doneOf}
 use Rattle.pool.proofs.Tests.{tests}
 use borrow.Author.Needs.{needs}
-use Rattle.pool.proofs.growing.extend.Statement.{statement}
-use Rattle.pool.proofs.growing.extend.Tie as tie
+use Rattle.pool.proofs.ListPool.extend.Statement.{statement}
+use Rattle.pool.proofs.ListPool.extend.Tie as tie
 
 grow-number-requires : tie.Need-grow-number-requires
 grow-number-requires c κs = search needs
+
+refused-requires : tie.Need-refused-requires
+refused-requires c κs = search needs
 
 same-length : tie.Need-same-length
 same-length c = search needs
@@ -16,10 +19,10 @@ same-length-2 c = search needs
 
 returns : tie.Need-returns
 unfolding called unless numberOf doneOf
-returns c = search (tests, ← c .before .grow-number .ensures .is)
+returns c = search (tests, ← c .before .before .grow-number .ensures .is, c .refused .ensures)
 
 extend-done-requires : tie.Need-extend-done-requires
-extend-done-requires c κs = c .before .before .before .before .grow-number .ensures .fine (c .before .before .before .if1 .left)
+extend-done-requires c κs = c .before .before .before .grow-number .ensures .fine (c .before .before .if1 .left)
 
 same-length-3 : tie.Need-same-length-3
 same-length-3 c = search needs
@@ -29,13 +32,14 @@ same-length-4 c = search needs
 
 returns-2 : tie.Need-returns-2
 unfolding called unless numberOf doneOf
-returns-2 c = search (tests, ← c .before .before .before .before .before .before .before .before .before .grow-number .ensures .is, ← c .before .before .before .before .extend-done .ensures)
+returns-2 c = search (tests, ← c .before .before .before .before .before .before .before .before .grow-number .ensures .is, ← c .before .before .before .before .extend-done .ensures)
 
 pub extend-spec : {M : Type 1} → statement M
 extend-spec =
     tie.close
     (tie.spec
     grow-number-requires
+    refused-requires
     same-length
     same-length-2
     returns

@@ -1,0 +1,49 @@
+-- `truncate` meets its contract: refused with its number, or done.
+use Rattle.pool.specs.Rules.{called, unless, numberOf, doneOf}
+use Rattle.pool.proofs.Tests.{tests}
+use borrow.Author.Needs.{needs}
+use Rattle.pool.proofs.ListPool.truncate.Statement.{statement}
+use Rattle.pool.proofs.ListPool.truncate.Tie as tie
+
+truncate-number-requires : tie.Need-truncate-number-requires
+truncate-number-requires c κs = search needs
+
+refused-requires : tie.Need-refused-requires
+refused-requires c κs = search needs
+
+same-length : tie.Need-same-length
+same-length c = search needs
+
+same-length-2 : tie.Need-same-length-2
+same-length-2 c = search needs
+
+returns : tie.Need-returns
+unfolding called unless numberOf doneOf
+returns c = search (tests, ← c .before .before .truncate-number .ensures .is, c .refused .ensures)
+
+truncate-done-requires : tie.Need-truncate-done-requires
+truncate-done-requires c κs = c .before .before .before .truncate-number .ensures .fine (c .before .before .if1 .left)
+
+same-length-3 : tie.Need-same-length-3
+same-length-3 c = search needs
+
+same-length-4 : tie.Need-same-length-4
+same-length-4 c = search needs
+
+returns-2 : tie.Need-returns-2
+unfolding called unless numberOf doneOf
+returns-2 c = search (tests, ← c .before .before .before .before .before .before .before .before .truncate-number .ensures .is, ← c .before .before .before .before .truncate-done .ensures)
+
+pub truncate-spec : {M : Type 1} → statement M
+truncate-spec =
+    tie.close
+    (tie.spec
+    truncate-number-requires
+    refused-requires
+    same-length
+    same-length-2
+    returns
+    truncate-done-requires
+    same-length-3
+    same-length-4
+    returns-2)
