@@ -565,7 +565,7 @@ pub fn class(length: u32) -> u32 {
     unsafe { sys::maaliskur_class(length) }
 }
 
-/// The words in a block of a class.
+/// The words in a block of a class; 0 from class 30 on, where 32 bits do not hold them.
 ///
 /// ```
 /// assert_eq!([0, 1, 2, 14].map(maaliskur::size), [4, 8, 16, 65_536]);

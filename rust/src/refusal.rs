@@ -2,8 +2,9 @@
 
 use core::fmt;
 
-/// Why a call is refused. A refused call has changed nothing; of several reasons the one with the
-/// lowest number is given.
+/// Why a call is refused. A refused call has changed nothing, but for the audit's map, whose first
+/// words are 0 after [`NotSound`](Refusal::NotSound); of several reasons the one with the lowest
+/// number is given.
 #[derive(Clone, Copy, Debug, PartialEq, Eq, PartialOrd, Ord, Hash)]
 #[repr(u32)]
 pub enum Refusal {
@@ -16,7 +17,8 @@ pub enum Refusal {
     BadHandle = 3,
     /// A position or range lies outside the list.
     Outside = 4,
-    /// The slots clash: a target that has to be empty is not, or both are the same list.
+    /// The slots clash: a target that has to be empty is not, or the two slots are one or have equal
+    /// handles, as two empty lists have.
     Clash = 5,
     /// A block is needed, and the head of its class is not locally sound.
     BadHead = 6,
@@ -76,7 +78,7 @@ impl fmt::Display for Refusal {
             Refusal::BadHandle => "a handle is not sound: it names no list of the pool",
             Refusal::Outside => "a position or range lies outside the list",
             Refusal::Clash => {
-                "the slots clash: the one to be filled is not empty, or both are one list"
+                "the slots clash: the one to be filled is not empty, or both have the same handle"
             }
             Refusal::BadHead => "the head of the free blocks of the size needed is not sound",
             Refusal::NoRoom => "there is no room for the block needed",

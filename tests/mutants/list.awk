@@ -1,8 +1,8 @@
 # Lists the mutants of the last file given: awk -f list.awk FILE.. FILE. All files but the last are read for the signatures of their functions alone.
 # A line for each: KIND, FUNCTION, LINE, and edits, with a tab between; an edit is 'LINE COLUMN LENGTH TEXT', the text to the end of the field.
 # Only code is mutated: bodies of functions and values of constants. Contracts, `ghost use` lines, signatures and types are passed over, and loop
-# With -v calls=1: a line FUNCTION, CALLED for each call instead.
 # invariants and measures stand in proofs/, not here.
+# With -v calls=1: a line FUNCTION, CALLED for each call instead.
 
 FNR == 1 {
     file++

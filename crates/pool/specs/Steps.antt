@@ -1,5 +1,5 @@
--- What the inner steps of the code ask of their callers and give them. It speaks of the state, of numbers and of the pool's LENGTH, never of
--- what the words are, so that it stands whatever was written before. Nobody has to believe this file: the calls' own contracts ask nothing.
+-- What the inner steps of the code ask of their callers and give them. What is asked for a block speaks of the state, of numbers and of the pool's
+-- LENGTH, never of what the words are, so that it stands whatever was written before. Nobody has to believe this file: the calls' own contracts ask nothing.
 use mathlib.Core.Path.{_≡_}
 use Prim.Native.Nat.{ℕ, _+_, _-_, _≤_, _<_}
 use mathlib.Core.Bool.{true, cond}

@@ -3,7 +3,7 @@ use super::parts;
 use pool::Answer;
 use pool::ListPool;
 
-// The code of a new pool: the lent arrays, with other lengths, are cleared.
+// The code of a new pool: arrays of other lengths are lent, and the pool is cleared; its words stay.
 pub const NEW_POOL: u32 = 0;
 
 // Is there a call with this code that takes n arguments?

@@ -1,4 +1,5 @@
--- What a sound pool is, in the words of paper 01 and of demand 3, and which lists it holds: to be read and believed. All else in this crate is proved.
+-- What a sound pool is, in the words of paper 01 and of demand 3, and which lists it holds: to be read and believed, as Meant and
+-- Sequences are, and the definitions of Meaning, Runs, Room and Refusals. The rest of this crate is proved.
 -- Throughout `st` is the pool's state, `ws` its words, `hs` the table's handles, `fs` the starts of the free blocks, a list for each class.
 use mathlib.Core.Path.{_≡_}
 use mathlib.Core.Bool.{true, cond, _&&_}
