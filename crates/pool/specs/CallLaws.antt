@@ -6,47 +6,53 @@ use mathlib.Core.List.{List}
 use lib.ListN.{length, set}
 use lib.Seq.{getD-set-same}
 use borrow.Author.Tests.{eq-eqb, ne-eqb, le-leb, lt-leb}
-use native.Mathlib.Nat.{eq-zero-or-pos, zero-add}
+use native.Mathlib.Nat.{eq-zero-or-pos}
 use native.Mathlib.Omega.{arith}
 use Rattle.pool.specs.declared.ListPool.{ListPool}
 use Rattle.pool.specs.declared.Answer.{Answer}
-use Rattle.pool.specs.Numbers.{handleAt, needNumber}
+use Rattle.pool.specs.Numbers.{handleAt}
 use Rattle.pool.specs.Blocks.{Taken, moved}
 use Rattle.pool.specs.Rules.{Outcome, outcome, answer, done, lenOf, seated, cleared, lastRemoved, grown, clearDone, pushDone, truncateDone}
-use Rattle.pool.specs.Steps.{Leaves, ListAt, Ready, resized}
-use Rattle.pool.specs.Facts.{Entered, ready}
+use Rattle.pool.specs.Steps.{Meets, ListAt, resized}
 
 -- a list that was seated in a block that holds it
-pub seated-leaves : (p value : ℕ) (m : Taken) (hs : List ℕ) (slot n : ℕ) {r : Answer} {after tabled : List ℕ} → slot < length hs → m .block + (n + 1) ≤ p
+seated-meets : (p value : ℕ) (m : Taken) (hs : List ℕ) (slot n : ℕ) {r : Answer} {after tabled : List ℕ} → slot < length hs → m .block + (n + 1) ≤ p
     → r ≡ answer 0 value (m .state) → after ≡ set (m .words) (m .block) n → tabled ≡ set hs slot (m .block + 1)
-    → Leaves p (seated value m hs slot n) slot n r after tabled
-seated-leaves p value m hs slot n inside ends e f g =
+    → Meets p (seated value m hs slot n) slot n r after tabled
+seated-meets p value m hs slot n inside ends e f g =
     record {
       is = rw (e, f, g);
       ends = rw (g, getD-set-same hs slot (m .block + 1) 0 inside) (omega arith);
     }
 
--- push leaves what its rule says, in the block that it ends in: its own, or one that was taken
-pub push-leaves : (p : ℕ) (st : ListPool) (ws hs : List ℕ) (slot x len : ℕ) (m : Taken) {r : Answer} {after tabled : List ℕ} → slot < length hs
+-- push meets its rule, in the block that the list ends in: its own, or one that was taken
+pub push-meets : (p : ℕ) (st : ListPool) (ws hs : List ℕ) (slot x len : ℕ) (m : Taken) {r : Answer} {after tabled : List ℕ} → slot < length hs
     → len ≡ lenOf ws hs slot → m ≡ moved st ws (handleAt hs slot) len (len + 1) → m .block + (len + 1 + 1) ≤ p
     → r ≡ answer 0 len (m .state) → after ≡ set (set (m .words) (m .block + (len + 1)) x) (m .block) (len + 1) → tabled ≡ set hs slot (m .block + 1)
-    → Leaves p (pushDone st ws hs slot x) slot (lenOf ws hs slot + 1) r after tabled
+    → Meets p (pushDone st ws hs slot x) slot (lenOf ws hs slot + 1) r after tabled
 unfolding pushDone
-push-leaves p st ws hs slot x len m inside l e ends re ae te =
+push-meets p st ws hs slot x len m inside l e ends re ae te =
+    rw (← l, ← e)
+    (seated-meets p len (record { block = m .block; state = m .state; words = set (m .words) (m .block + (len + 1)) x }) hs slot (len + 1) inside ends re ae te)
+
+-- a resize meets its rule: the list gives its block up
+pub released-meets : (p : ℕ) (st : ListPool) (ws hs : List ℕ) (slot h n b : ℕ) {r : Answer} {after tabled : List ℕ} → slot < length hs → b ≡ 0 → 1 ≤ h
+    → outcome r after tabled ≡ cleared st ws hs slot h n → Meets p (resized st ws hs slot h n b) slot b r after tabled
+unfolding resized cleared
+released-meets p st ws hs slot h n b inside none some e =
     record {
-      is = rw (← l, ← e, re, ae, te);
-      ends = rw (te, getD-set-same hs slot (m .block + 1) 0 inside) (omega (arith, l));
+      is = rw (eq-eqb b 0 none) e;
+      ends = rw (ap (λ (o : Outcome). o .handles) e, ne-eqb h 0 (omega arith), getD-set-same hs slot 0 0 inside, none) (omega arith);
     }
 
--- a list that gets at least one element, in the block that it ends in: its own, or one that was taken
-pub resized-leaves : (p : ℕ) (st : ListPool) (ws hs : List ℕ) (slot h n b : ℕ) (m : Taken) {r : Answer} {after tabled : List ℕ} → slot < length hs → (b ≡ 0 → ⊥)
+-- or it gets at least one element, in the block that it ends in
+pub resized-meets : (p : ℕ) (st : ListPool) (ws hs : List ℕ) (slot h n b : ℕ) (m : Taken) {r : Answer} {after tabled : List ℕ} → slot < length hs → (b ≡ 0 → ⊥)
     → m ≡ moved st ws h n b → m .block + (b + 1) ≤ p
     → r ≡ answer 0 0 (m .state) → after ≡ set (m .words) (m .block) b → tabled ≡ set hs slot (m .block + 1)
-    → (outcome r after tabled ≡ resized st ws hs slot h n b) × (1 ≤ b → handleAt tabled slot + b ≤ p)
+    → Meets p (resized st ws hs slot h n b) slot b r after tabled
 unfolding resized
-resized-leaves p st ws hs slot h n b m inside some e ends re ae te =
-    let l = seated-leaves p 0 m hs slot b inside ends re ae te in
-    (rw (ne-eqb b 0 some, ← e) (l .is), λ _. l .ends)
+resized-meets p st ws hs slot h n b m inside some e ends re ae te =
+    rw (ne-eqb b 0 some, ← e) (seated-meets p 0 m hs slot b inside ends re ae te)
 
 -- one element less
 pub last-resized : (st : ListPool) (ws hs : List ℕ) (slot h n : ℕ) → 1 ≤ n → lastRemoved st ws hs slot h n ≡ resized st ws hs slot h n (n - 1)
@@ -84,11 +90,6 @@ truncate-none p st ws hs slot b l most =
     rw (eq-eqb b 0 z, eq-eqb (handleAt hs slot) 0 empty) refl)
     (λ p. rw (ne-eqb b 0 (omega arith), le-leb (lenOf ws hs slot) b most) refl)
     (eq-zero-or-pos b)
-
--- an empty list can get what no number of an empty list refuses
-pub ready-empty : (st : ListPool) (ws hs : List ℕ) (slot b : ℕ) → Entered (st .used) ws hs slot → handleAt hs slot ≡ 0 → needNumber st ws 0 b ≡ 0
-    → Ready st ws hs slot (lenOf ws hs slot + b)
-ready-empty st ws hs slot b f z e = ready st ws hs slot _ f (rw (f .list .none z, zero-add) e)
 
 -- words written after a step, at a place of the list it left
 pub outcome-written : (f : List ℕ → List ℕ → List ℕ) {r : Answer} {after tabled written : List ℕ} {o : Outcome} → outcome r after tabled ≡ o → written ≡ f after tabled

@@ -1,5 +1,5 @@
 -- What the tests and numbers of a call say where they do not refuse it. Each fact is stated once and cited by every call.
-use Prim.Native.Nat.{ℕ, _+_, _-_, _%_, _≤_, _<_}
+use Prim.Native.Nat.{ℕ, _+_, _-_, _%_, _≤_, _<_, min}
 use mathlib.Core.Path.{_≡_, refl, sym, ap, _∙_}
 use mathlib.Core.Logic.{_⊎_, inl, inr, ⊎-elim}
 use mathlib.Core.Bool.{Bool, true, false, cond, not, _&&_, _||_, and-eq-true-iff, true≢false}
@@ -7,14 +7,14 @@ use mathlib.Core.List.{List}
 use lib.ListN.{length, getD}
 use lib.Dec.{ltb, leb, eqb}
 use borrow.Author.Tests.{ltb-true, ltb-false, leb-true, leb-false, eqb-true, eqb-false, eq-eqb, ne-eqb, lt-ltb, lt-leb, le-leb, not-false}
-use native.Mathlib.Nat.{eq-zero-or-pos}
+use native.Mathlib.Nat.{eq-zero-or-pos, zero-add}
 use native.Mathlib.Omega.{arith}
 use Rattle.sizes.specs.Class.{longest, classOf, sizeOf}
 use Rattle.sizes.specs.Laws.{class-holds, class-below}
 use Rattle.pool.specs.declared.ListPool.{ListPool}
 use Rattle.pool.specs.Numbers.{_orElse_, poolLimit, tableLimit, headOf, handleAt, lengthAt, soundHandle, soundHead, given, tooLong, overLimit, entryNumber, entryNumber₂, badHead, noRoom, roomNumber, needsBlock, needNumber}
-use Rattle.pool.specs.Rules.{lenOf}
-use Rattle.pool.specs.Steps.{ListAt, CanAlloc, Ready}
+use Rattle.pool.specs.Rules.{lenOf, atNumber, takeNumber, growNumber, fromSliceNumber, deepCloneNumber, growAtNumber, copyFromNumber, removeNumber, truncateNumber}
+use Rattle.pool.specs.Steps.{ListAt, CanAlloc, Ready, HasAt, CanCopy}
 
 -- TESTS
 
@@ -203,6 +203,11 @@ ready st ws hs slot b f e =
     let n = need-facts st ws (f .limits .pool-limit) (f .limits .below) (lenOf ws hs slot) b e in
     record { inside = f .inside; can = record { limit = f .limits .pool-limit; list = f .list; most = n .0; room = n .1 } }
 
+-- an empty list can get what no number of an empty list refuses
+pub ready-empty : (st : ListPool) (ws hs : List ℕ) (slot b : ℕ) → Entered (st .used) ws hs slot → handleAt hs slot ≡ 0 → needNumber st ws 0 b ≡ 0
+    → Ready st ws hs slot (lenOf ws hs slot + b)
+ready-empty st ws hs slot b f z e = ready st ws hs slot _ f (rw (f .list .none z, zero-add) e)
+
 -- a length over the longest is 7, whatever the heads are
 pub need-over : (st : ListPool) (ws : List ℕ) (a b : ℕ) → longest < b → needNumber st ws a b ≡ 7
 unfolding needNumber needsBlock roomNumber badHead noRoom given _orElse_
@@ -211,3 +216,65 @@ need-over st ws a b h = rw (ne-eqb b 0 (omega arith), lt-ltb longest b h, lt-leb
     go : (t : Bool) → _≡_ {A = ℕ} (cond (t || true || not (eqb (classOf a) (classOf b))) 7 0) 7
     go true = refl
     go false = refl
+
+-- THE NUMBERS OF CALLS: what a call may rely on that its number does not refuse
+
+pub at-facts : (used : ℕ) (ws hs : List ℕ) (slot position : ℕ) → atNumber used ws hs slot position ≡ 0 → (Entered used ws hs slot) × (HasAt ws hs slot position)
+unfolding atNumber
+at-facts used ws hs slot position e =
+    let f = entry-facts _ _ _ _ (else-first _ _ e) in
+    (f, record { inside = f .inside; before = leb-false _ _ (given-zero 4 _ (omega arith) (else-second _ _ e)); ends = f .list .ends })
+
+pub take-facts : (used : ℕ) (ws hs : List ℕ) (slot to : ℕ) → takeNumber used ws hs slot to ≡ 0 → (slot < length hs) × (to < length hs)
+unfolding takeNumber
+take-facts used ws hs slot to e = let f = entry-facts₂ _ _ _ _ _ (else-first _ _ e) in (f .0 .inside, f .1 .inside)
+
+module _ (st : ListPool) (ws hs : List ℕ) where
+  pub grow-facts : (slot count : ℕ) → growNumber st ws hs slot count ≡ 0 → Ready st ws hs slot (lenOf ws hs slot + count)
+  unfolding growNumber
+  grow-facts slot count e = ready st ws hs _ _ (entry-facts _ _ _ _ (else-first _ _ e)) (else-second _ _ e)
+
+  pub grow-at-facts : (slot position count : ℕ) → growAtNumber st ws hs slot position count ≡ 0
+      → (position ≤ lenOf ws hs slot) × (Ready st ws hs slot (lenOf ws hs slot + count))
+  unfolding growAtNumber
+  grow-at-facts slot position count e =
+      let e2 = else-second _ _ e in
+      (ltb-false _ _ (given-zero 4 _ (omega arith) (else-first _ _ e2)), ready st ws hs _ _ (entry-facts _ _ _ _ (else-first _ _ e)) (else-second _ _ e2))
+
+  pub remove-facts : (slot position : ℕ) → removeNumber st ws hs slot position ≡ 0 → (HasAt ws hs slot position) × (Ready st ws hs slot (lenOf ws hs slot - 1))
+  unfolding removeNumber
+  remove-facts slot position e = let f = at-facts _ _ _ _ _ (else-first _ _ e) in (f .1, ready st ws hs _ _ (f .0) (else-second _ _ e))
+
+  pub truncate-facts : (slot n : ℕ) → truncateNumber st ws hs slot n ≡ 0 → Ready st ws hs slot (min (lenOf ws hs slot) n)
+  unfolding truncateNumber
+  truncate-facts slot n e = ready st ws hs _ _ (entry-facts _ _ _ _ (else-first _ _ e)) (else-second _ _ e)
+
+  pub from-slice-facts : (slot count : ℕ) → fromSliceNumber st ws hs slot count ≡ 0 → Ready st ws hs slot (lenOf ws hs slot + count)
+  unfolding fromSliceNumber
+  from-slice-facts slot count e =
+      let e2 = else-second _ _ e in
+      ready-empty st ws hs _ _ (entry-facts _ _ _ _ (else-first _ _ e)) (eqb-true _ _ (not-false _ (given-zero 5 _ (omega arith) (else-first _ _ e2)))) (else-second _ _ e2)
+
+  pub deep-clone-facts : (slot to : ℕ) → deepCloneNumber st ws hs slot to ≡ 0
+      → (Entered (st .used) ws hs slot) × (Ready st ws hs to (lenOf ws hs to + lenOf ws hs slot))
+  unfolding deepCloneNumber
+  deep-clone-facts slot to e =
+      let f = entry-facts₂ _ _ _ _ _ (else-first _ _ e) in
+      let e2 = else-second _ _ e in
+      (f .0, ready-empty st ws hs _ _ (f .1) (eqb-true _ _ (not-false _ (given-zero 5 _ (omega arith) (else-first _ _ e2)))) (else-second _ _ e2))
+
+  pub copy-from-facts : (slot source start end position : ℕ) → copyFromNumber st ws hs slot source start end position ≡ 0
+      → CanCopy st ws hs slot source start end position
+  unfolding copyFromNumber
+  copy-from-facts slot source start end position e =
+      let f = entry-facts₂ _ _ _ _ _ (else-first _ _ e) in
+      let e2 = else-second _ _ e in
+      let places = neither (given-zero 4 _ (omega arith) (else-first _ _ e2)) in
+      let range = neither (places .0) in
+      record {
+        ready = ready st ws hs _ _ (f .0) (else-second _ _ (else-second _ _ e2));
+        place = ltb-false _ _ (range .0);
+        order = ltb-false _ _ (range .1);
+        named = f .1 .inside;
+        range = omega (arith, f .1 .list .ends, ltb-false (lenOf ws hs source) end (places .1));
+      }

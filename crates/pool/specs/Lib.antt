@@ -1,9 +1,9 @@
 pub mod Numbers
 pub mod Blocks
 pub mod Rules
+pub mod Parts
+pub mod Promises
 pub mod Steps
 pub mod Facts
 pub mod StepLaws
 pub mod CallLaws
-pub mod Promises
-pub mod Parts

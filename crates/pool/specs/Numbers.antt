@@ -16,7 +16,7 @@ poolLimit = 65536
 abbrev pub tableLimit : ℕ
 tableLimit = 16384
 
--- "The pool state is a value with used count and heads."
+-- "The pool state is a value with used count and heads, and each call hands the new one back."
 abbrev pub stateOf : ℕ → List ℕ → ListPool
 stateOf used heads = record { used = used; heads = heads }
 

@@ -39,7 +39,7 @@ refused st ws hs number = outcome (answer number 0 st) ws hs
 abbrev pub lenOf : List ℕ → List ℕ → ℕ → ℕ
 lenOf ws hs slot = lengthAt ws (handleAt hs slot)
 
--- a list of n elements lies in a block that was taken: its length is written, and "the handle is block start + 1"
+-- a list of n elements lies in a block that was taken: its length is written, and "The handle is block start + 1."
 abbrev pub seated : ℕ → Taken → List ℕ → ℕ → ℕ → Outcome
 seated value m hs slot n = done value (m .state) (set (m .words) (m .block) n) (set hs slot (m .block + 1))
 
@@ -54,7 +54,7 @@ cleared st ws hs slot h n =
 unfoldable pub lastRemoved : ListPool → List ℕ → List ℕ → ℕ → ℕ → ℕ → Outcome
 lastRemoved st ws hs slot h n = cond (eqb n 1) (cleared st ws hs slot h n) (seated 0 (moved st ws h n (n - 1)) hs slot (n - 1))
 
--- 6. "Growing by a count: to an empty list with count 0 does nothing, with more allocates; otherwise moves when the class changes,
+-- 6. "Growing by a count (35): to an empty list with count 0 does nothing, with more allocates; otherwise moves when the class changes,
 -- copying length + 1 words. Then the new length is written."
 unfoldable pub grown : ListPool → List ℕ → List ℕ → ℕ → ℕ → Outcome
 grown st ws hs slot count =
@@ -68,6 +68,8 @@ opened st ws hs slot position count =
     let at = handleAt (g .handles) slot + position in
     outcome (g .answer) (copied (g .words) at (at + count) (lenOf ws hs slot - position)) (g .handles)
 
+-- THE NUMBERS OF CALLS THAT LOOK AT NO HEAD
+
 -- 4: "`get`, set, `remove`, `swap_remove` need position < length"; "`first` needs length ≥ 1"
 unfoldable pub atNumber : ℕ → List ℕ → List ℕ → ℕ → ℕ → ℕ
 atNumber used ws hs slot position = entryNumber used ws hs slot orElse given 4 (leb (lenOf ws hs slot) position)
@@ -78,51 +80,6 @@ takeNumber used ws hs slot to = entryNumber₂ used ws hs slot to orElse given 5
 
 -- THE CALLS: on a state, a pool's words and a table's handles whatever
 module _ (st : ListPool) (ws hs : List ℕ) where
-  -- "`is_empty` .. gives 1 for handle 0, else 0."
-  unfoldable pub isEmptyDone : ℕ → Outcome
-  isEmptyDone slot = done (cond (eqb (handleAt hs slot) 0) 1 0) st ws hs
-
-  -- "`len` gives the stored length (0 for handle 0)"
-  unfoldable pub lenDone : ℕ → Outcome
-  lenDone slot = done (lenOf ws hs slot) st ws hs
-
-  -- "`is_valid` gives 1"
-  unfoldable pub isValidDone : ℕ → Outcome
-  isValidDone slot = done 1 st ws hs
-
-  -- "`get` and `first` give the element's word"
-  unfoldable pub getDone : ℕ → ℕ → Outcome
-  getDone slot position = done (getD ws (handleAt hs slot + position) 0) st ws hs
-
-  -- "and setting writes that word alone."
-  unfoldable pub setDone : ℕ → ℕ → ℕ → Outcome
-  setDone slot position x = done 0 st (set ws (handleAt hs slot + position) x) hs
-
-  unfoldable pub clearDone : ℕ → Outcome
-  clearDone slot = cleared st ws hs slot (handleAt hs slot) (lenOf ws hs slot)
-
-  -- "`take` moves the handle to the other slot and leaves 0."
-  unfoldable pub takeDone : ℕ → ℕ → Outcome
-  takeDone slot to = done 0 st ws (set (set hs to (handleAt hs slot)) slot 0)
-
-  -- a block for count elements more
-  unfoldable pub growNumber : ℕ → ℕ → ℕ
-  growNumber slot count = entryNumber (st .used) ws hs slot orElse needNumber st ws (lenOf ws hs slot) (lenOf ws hs slot + count)
-
-  -- 5. "`push` allocates for an empty list and moves when the new length is 4, 8, 16 and so on, copying length + 1 words; the length is
-  -- written last." "`push` returns the old length."
-  unfoldable pub pushDone : ℕ → ℕ → Outcome
-  pushDone slot x =
-      let n = lenOf ws hs slot in
-      let m = moved st ws (handleAt hs slot) n (n + 1) in
-      done n (m .state) (set (set (m .words) (m .block + (n + 1)) x) (m .block) (n + 1)) (set hs slot (m .block + 1))
-
-  -- 6. "`extend` and `copy_from` fill them.": the places opened at the end
-  unfoldable pub extendDone : ℕ → List ℕ → Outcome
-  extendDone slot xs =
-      let g = grown st ws hs slot (length xs) in
-      outcome (g .answer) (stored (g .words) (handleAt (g .handles) slot + lenOf ws hs slot) xs) (g .handles)
-
   -- 5: "`from_slice` and `deep_clone` into a non-empty slot"
   unfoldable pub fromSliceNumber : ℕ → ℕ → ℕ
   fromSliceNumber slot count =
@@ -137,6 +94,32 @@ module _ (st : ListPool) (ws hs : List ℕ) where
       let g = grown st ws hs slot (length xs) in
       outcome (g .answer) (stored (g .words) (handleAt (g .handles) slot) xs) (g .handles)
 
+  -- "`is_empty` .. gives 1 for handle 0, else 0."
+  unfoldable pub isEmptyDone : ℕ → Outcome
+  isEmptyDone slot = done (cond (eqb (handleAt hs slot) 0) 1 0) st ws hs
+
+  -- "`len` gives the stored length (0 for handle 0)"
+  unfoldable pub lenDone : ℕ → Outcome
+  lenDone slot = done (lenOf ws hs slot) st ws hs
+
+  -- "`is_valid` gives 1"
+  unfoldable pub isValidDone : ℕ → Outcome
+  isValidDone slot = done 1 st ws hs
+
+  -- `as_slice`, `as_mut_slice`: "where the call would be refused, and for handle 0, the part is empty"; else it begins at the handle
+  unfoldable pub part : ℕ → Part
+  part slot =
+      let h = handleAt hs slot in
+      cond (eqb (entryNumber (st .used) ws hs slot) 0) (record { start = h; end = h + lengthAt ws h }) (record { start = 0; end = 0 })
+
+  -- "`get` and `first` give the element's word"
+  unfoldable pub getDone : ℕ → ℕ → Outcome
+  getDone slot position = done (getD ws (handleAt hs slot + position) 0) st ws hs
+
+  -- "and setting writes that word alone."
+  unfoldable pub setDone : ℕ → ℕ → ℕ → Outcome
+  setDone slot position x = done 0 st (set ws (handleAt hs slot + position) x) hs
+
   unfoldable pub deepCloneNumber : ℕ → ℕ → ℕ
   deepCloneNumber slot to =
       entryNumber₂ (st .used) ws hs slot to
@@ -149,15 +132,37 @@ module _ (st : ListPool) (ws hs : List ℕ) where
       let g = grown st ws hs to (lenOf ws hs slot) in
       outcome (g .answer) (copied (g .words) (handleAt hs slot) (handleAt (g .handles) to) (lenOf ws hs slot)) (g .handles)
 
+  unfoldable pub clearDone : ℕ → Outcome
+  clearDone slot = cleared st ws hs slot (handleAt hs slot) (lenOf ws hs slot)
+
+  -- "`take` moves the handle to the other slot and leaves 0."
+  unfoldable pub takeDone : ℕ → ℕ → Outcome
+  takeDone slot to = done 0 st ws (set (set hs to (handleAt hs slot)) slot 0)
+
+  -- a block for count elements more
+  unfoldable pub growNumber : ℕ → ℕ → ℕ
+  growNumber slot count = entryNumber (st .used) ws hs slot orElse needNumber st ws (lenOf ws hs slot) (lenOf ws hs slot + count)
+
+  -- 5. "`push` (30) allocates for an empty list and moves when the new length is 4, 8, 16 and so on, copying length + 1 words; the length is
+  -- written last." "`push` returns the old length."
+  unfoldable pub pushDone : ℕ → ℕ → Outcome
+  pushDone slot x =
+      let n = lenOf ws hs slot in
+      let m = moved st ws (handleAt hs slot) n (n + 1) in
+      seated n (record { block = m .block; state = m .state; words = set (m .words) (m .block + (n + 1)) x }) hs slot (n + 1)
+
+  -- 6. "`extend` and `copy_from` fill them.": the places opened at the end
+  unfoldable pub extendDone : ℕ → List ℕ → Outcome
+  extendDone slot xs =
+      let g = grown st ws hs slot (length xs) in
+      outcome (g .answer) (stored (g .words) (handleAt (g .handles) slot + lenOf ws hs slot) xs) (g .handles)
+
   -- 4: "`insert`, `grow_at` and the target of `copy_from` need position ≤ length"
   unfoldable pub growAtNumber : ℕ → ℕ → ℕ → ℕ
   growAtNumber slot position count =
       entryNumber (st .used) ws hs slot
       orElse given 4 (ltb (lenOf ws hs slot) position)
       orElse needNumber st ws (lenOf ws hs slot) (lenOf ws hs slot + count)
-
-  unfoldable pub growAtDone : ℕ → ℕ → ℕ → Outcome
-  growAtDone slot position count = opened st ws hs slot position count
 
   -- 4: "the source range needs start ≤ end ≤ source length"; 5: "`copy_from` between slots with equal handles, two empty lists included"
   unfoldable pub copyFromNumber : ℕ → ℕ → ℕ → ℕ → ℕ → ℕ
@@ -210,6 +215,9 @@ module _ (st : ListPool) (ws hs : List ℕ) where
       cond (eqb n 0) (clearDone slot)
       (cond (leb (lenOf ws hs slot) n) (done 0 st ws hs) (seated 0 (moved st ws (handleAt hs slot) (lenOf ws hs slot) n) hs slot n))
 
+  unfoldable pub growAtDone : ℕ → ℕ → ℕ → Outcome
+  growAtDone slot position count = opened st ws hs slot position count
+
   -- 9. "Pool `clear` .. gives 1 only for a length over its limit"
   unfoldable pub clearPoolNumber : ℕ
   clearPoolNumber = given 1 (tooLong (length ws) (length hs))
@@ -217,12 +225,6 @@ module _ (st : ListPool) (ws hs : List ℕ) where
   -- "sets used, heads and all handles to 0 and touches no pool word"
   unfoldable pub clearPoolDone : Outcome
   clearPoolDone = done 0 (stateOf 0 (replicate classCount 0)) ws (replicate (length hs) 0)
-
-  -- `as_slice`, `as_mut_slice`: "where the call would be refused, and for handle 0, the part is empty"; else it begins at the handle
-  unfoldable pub part : ℕ → Part
-  part slot =
-      let h = handleAt hs slot in
-      cond (eqb (entryNumber (st .used) ws hs slot) 0) (record { start = h; end = h + lengthAt ws h }) (record { start = 0; end = 0 })
 
 -- The calls with their arguments, in the order of list.rs: slots, positions, counts, lengths, elements.
 pub data Call : Type 0 where

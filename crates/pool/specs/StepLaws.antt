@@ -6,16 +6,16 @@ use mathlib.Core.Bool.{Bool, true, false, cond, not, _&&_, _||_}
 use mathlib.Core.List.{List}
 use lib.ListN.{length}
 use lib.Dec.{eqb}
-use borrow.Author.Tests.{le-ltb, eq-eqb}
+use borrow.Author.Tests.{le-ltb, eq-eqb, not-true}
 use native.Mathlib.Nat.{eq-zero-or-pos}
 use native.Mathlib.Omega.{arith}
 use Rattle.sizes.specs.Class.{longest, classOf, sizeOf}
 use Rattle.sizes.specs.Laws.{class-fits, class-below, size-least}
 use Rattle.pool.specs.declared.ListPool.{ListPool}
 use Rattle.pool.specs.Numbers.{poolLimit, headOf, handleAt, roomNumber, needsBlock, needNumber}
-use Rattle.pool.specs.Rules.{lenOf, atNumber}
+use Rattle.pool.specs.Rules.{lenOf}
 use Rattle.pool.specs.Steps.{ListAt, CanAlloc, CanFree, CanRealloc, CanResize, Ready, HasAt}
-use Rattle.pool.specs.Facts.{Entered, else-first, entry-facts, stays}
+use Rattle.pool.specs.Facts.{stays}
 
 -- the head of a class whose block can be taken lies in the pool
 pub head-below : (st : ListPool) (p c : ℕ) → CanAlloc st p c → headOf st c < p
@@ -45,9 +45,9 @@ module _ (st : ListPool) (p h a b : ℕ) (can : CanResize st p h a b) where
   block-fits = class-fits b (omega (arith, can .most))
 
   -- where none is needed and some elements are left, the list's own block holds them
-  pub stay-ends : 0 < b → needsBlock a b ≡ false → (1 ≤ h) × (h - 1 + (b + 1) ≤ p)
-  stay-ends some m =
-      let s = stays a b some m in
+  pub stay-ends : {t : Bool} → 0 < b → t ≡ needsBlock a b → not t ≡ true → (1 ≤ h) × (h - 1 + (b + 1) ≤ p)
+  stay-ends some m n =
+      let s = stays a b some (sym m ∙ not-true _ n) in
       (can .list .some (s .some), omega (arith, can .list .block (s .some), block-fits, ap sizeOf (s .class)))
 
 -- a list that keeps its length needs no block
@@ -58,11 +58,6 @@ need-same st ws a b short e = rw (e, le-ltb longest a short, eq-eqb (classOf a) 
     go : (t : Bool) → _≡_ {A = ℕ} (cond (not t && (t || false || not true)) (roomNumber st ws a) 0) 0
     go true = refl
     go false = refl
-
--- a call that 4 does not refuse is one that 1, 2 and 3 do not
-pub at-entered : (used : ℕ) (ws hs : List ℕ) (slot position : ℕ) {r : ℕ} → r ≡ atNumber used ws hs slot position → r ≡ 0 → Entered used ws hs slot
-unfolding atNumber
-at-entered used ws hs slot position e z = entry-facts used ws hs slot (else-first _ _ (sym e ∙ z))
 
 -- a call that may remove an element can remove the last one, wherever the elements were moved before
 pub can-remove-last : (st : ListPool) (ws hs : List ℕ) (slot position : ℕ) {p n : ℕ} → (HasAt ws hs slot position) × (Ready st ws hs slot (lenOf ws hs slot - 1)) → p ≡ length ws → n ≡ lenOf ws hs slot

@@ -70,11 +70,6 @@ pub record CanCopy (st : ListPool) (ws hs : List ℕ) (slot source start end pos
   pub named : source < length hs
   pub range : handleAt hs source + end ≤ length ws
 
--- what the code of a number gives: the number, and where it is 0 what the call may rely on
-pub record Gives (number : ℕ) (Fine : Type 0) (r : ℕ) : Type 0 where
-  pub is : r ≡ number
-  pub fine : r ≡ 0 → Fine
-
 -- the block that the code hands back, with the heads and the words it left, as the rules have it
 abbrev pub taken : Block → List ℕ → List ℕ → Taken
 taken t heads ws = record { block = t .at; state = stateOf (t .used) heads; words = ws }
@@ -87,7 +82,7 @@ unfoldable pub resized : ListPool → List ℕ → List ℕ → ℕ → ℕ → 
 resized st ws hs slot h n b = cond (eqb b 0) (cleared st ws hs slot h n) (seated 0 (moved st ws h n b) hs slot b)
 
 -- a step did what the rule says, and the first n elements of the slot's list lie in the pool
-pub record Leaves (p : ℕ) (rule : Outcome) (slot n : ℕ) (r : Answer) (after tabled : List ℕ) : Type 0 where
+pub record Meets (p : ℕ) (rule : Outcome) (slot n : ℕ) (r : Answer) (after tabled : List ℕ) : Type 0 where
   pub is : outcome r after tabled ≡ rule
   pub ends : handleAt tabled slot + n ≤ p
 

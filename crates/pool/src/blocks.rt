@@ -14,7 +14,7 @@ use sizes::SizeClass;
 const MAX: u32 = 4294967295;
 
 // Takes a block of the class c: the first of its chain, or a fresh one at the end of the used words.
-pub fn alloc(used: u32, heads: &mut [u32; SizeClass::COUNT], pool: &mut [u32], c: u32) -> Block
+fn alloc(used: u32, heads: &mut [u32; SizeClass::COUNT], pool: &mut [u32], c: u32) -> Block
     requires { ⌜ CanAlloc (stateOf used (now heads)) (length (now pool)) c ⌝ }
     ensures { λ r. ⌜ Takes (length (now (pool .entry))) (blocks.alloc (stateOf used (now (heads .entry))) (now (pool .entry)) c) (sizeOf c) r (now (heads .exit)) (now (pool .exit)) ⌝ }
 {
@@ -45,7 +45,7 @@ pub fn free(heads: &mut [u32; SizeClass::COUNT], pool: &mut [u32], block: usize,
 }
 
 // Takes a block of the class to, copies the first n words there, and frees the old block, of the class from.
-pub fn realloc(
+fn realloc(
     used: u32,
     heads: &mut [u32; SizeClass::COUNT],
     pool: &mut [u32],

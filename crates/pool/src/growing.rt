@@ -4,7 +4,7 @@ ghost use Prim.Native.Nat.{_+_, _≤_};
 ghost use lib.ListN.{length};
 ghost use Rattle.pool.specs.Rules as rules;
 ghost use Rattle.pool.specs.Rules.{called, outcome, lenOf};
-ghost use Rattle.pool.specs.Steps.{CanCopy, Leaves, Ready};
+ghost use Rattle.pool.specs.Steps.{CanCopy, Meets, Ready};
 use super::Answer;
 use super::ListPool;
 use super::blocks;
@@ -20,7 +20,7 @@ fn push_done(
     element: u32,
 ) -> Answer
     requires { ⌜ Ready state (now pool) (now handles) slot (lenOf (now pool) (now handles) slot + 1) ⌝ }
-    ensures { λ r. ⌜ Leaves (length (now (pool .entry))) (rules.pushDone state (now (pool .entry)) (now (handles .entry)) slot element) slot (lenOf (now (pool .entry)) (now (handles .entry)) slot + 1) r (now (pool .exit)) (now (handles .exit)) ⌝ }
+    ensures { λ r. ⌜ Meets (length (now (pool .entry))) (rules.pushDone state (now (pool .entry)) (now (handles .entry)) slot element) slot (lenOf (now (pool .entry)) (now (handles .entry)) slot + 1) r (now (pool .exit)) (now (handles .exit)) ⌝ }
 {
     let h = handles[slot];
     let len = numbers::length_at(pool, h);
@@ -142,7 +142,7 @@ impl ListPool {
     ) -> Answer
         ensures { λ r. ⌜ outcome r (now (pool .exit)) (now (handles .exit)) ≡ called (rules.extend slot (now (elements .entry))) self (now (pool .entry)) (now (handles .entry)) ⌝ }
     {
-        let number = numbers::grow_number(
+        let number = numbers::extend_number(
             self.used,
             &self.heads,
             pool,

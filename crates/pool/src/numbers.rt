@@ -1,14 +1,11 @@
 // Which number a call is refused with: paper 01's table, judged on the state at entry. Nothing is changed here.
 ghost use mathlib.Core.Path.{_≡_};
-ghost use Prim.Native.Nat.{_+_, _-_, _≤_, _<_, min};
+ghost use Prim.Native.Nat.{_+_, _≤_};
 ghost use lib.ListN.{length};
 ghost use Rattle.pool.specs.Numbers as numbers;
 ghost use Rattle.pool.specs.Numbers.{stateOf};
 ghost use Rattle.sizes.specs.Class.{longest};
 ghost use Rattle.pool.specs.Rules as rules;
-ghost use Rattle.pool.specs.Rules.{lenOf};
-ghost use Rattle.pool.specs.Facts.{Entered};
-ghost use Rattle.pool.specs.Steps.{CanCopy, Gives, HasAt, Ready};
 use super::checks;
 use sizes::SizeClass;
 
@@ -26,7 +23,7 @@ pub fn length_at(pool: &[u32], h: u32) -> u32
 
 // 1, 2, 3 or 0 for a call that names the list in a slot.
 pub fn entry_number(used: u32, pool: &[u32], handles: &[u32], slot: usize) -> u32
-    ensures { λ r. ⌜ Gives (numbers.entryNumber used (now (pool .entry)) (now (handles .entry)) slot) (Entered used (now (pool .entry)) (now (handles .entry)) slot) r ⌝ }
+    ensures { λ r. ⌜ r ≡ numbers.entryNumber used (now (pool .entry)) (now (handles .entry)) slot ⌝ }
 {
     if checks::over_limit(used, pool.len(), handles.len()) {
         return 1;
@@ -42,7 +39,7 @@ pub fn entry_number(used: u32, pool: &[u32], handles: &[u32], slot: usize) -> u3
 
 // The same for a call that names the lists in two slots.
 pub fn entry_number_2(used: u32, pool: &[u32], handles: &[u32], slot: usize, other: usize) -> u32
-    ensures { λ r. ⌜ Gives (numbers.entryNumber₂ used (now (pool .entry)) (now (handles .entry)) slot other) ((Entered used (now (pool .entry)) (now (handles .entry)) slot) × (Entered used (now (pool .entry)) (now (handles .entry)) other)) r ⌝ }
+    ensures { λ r. ⌜ r ≡ numbers.entryNumber₂ used (now (pool .entry)) (now (handles .entry)) slot other ⌝ }
 {
     if checks::over_limit(used, pool.len(), handles.len()) {
         return 1;
@@ -80,7 +77,6 @@ pub fn needs_block(a: u32, b: u32) -> bool
 
 // 6, 7 or 0 where a block is needed for n elements.
 fn room_number(used: u32, heads: &[u32; SizeClass::COUNT], pool: &[u32], n: u32) -> u32
-    requires { ⌜ used ≤ length (now pool) ⌝ }
     ensures { λ r. ⌜ r ≡ numbers.roomNumber (stateOf used (now (heads .entry))) (now (pool .entry)) n ⌝ }
 {
     if n > SizeClass::LONGEST {
@@ -103,7 +99,6 @@ fn room_number(used: u32, heads: &[u32; SizeClass::COUNT], pool: &[u32], n: u32)
 
 // 6, 7 or 0 for a list of a elements that gets b.
 fn need_number(used: u32, heads: &[u32; SizeClass::COUNT], pool: &[u32], a: u32, b: u32) -> u32
-    requires { ⌜ used ≤ length (now pool) ⌝ }
     ensures { λ r. ⌜ r ≡ numbers.needNumber (stateOf used (now (heads .entry))) (now (pool .entry)) a b ⌝ }
 {
     if needs_block(a, b) {
@@ -120,7 +115,7 @@ fn more_number(
     a: u32,
     count: usize,
 ) -> u32
-    requires { ⌜ (used ≤ length (now pool)) × (a ≤ longest) ⌝ }
+    requires { ⌜ a ≤ longest ⌝ }
     ensures { λ r. ⌜ r ≡ numbers.needNumber (stateOf used (now (heads .entry))) (now (pool .entry)) a (a + count) ⌝ }
 {
     if count > SizeClass::LONGEST as usize {
@@ -129,8 +124,8 @@ fn more_number(
     need_number(used, heads, pool, a, a + count as u32)
 }
 
-// The number of a call that makes the list in a slot grow by a count at its end.
-pub fn grow_number(
+// The number of `from_slice`, of count elements.
+pub fn from_slice_number(
     used: u32,
     heads: &[u32; SizeClass::COUNT],
     pool: &[u32],
@@ -138,36 +133,21 @@ pub fn grow_number(
     slot: usize,
     count: usize,
 ) -> u32
-    ensures { λ r. ⌜ Gives (rules.growNumber (stateOf used (now (heads .entry))) (now (pool .entry)) (now (handles .entry)) slot count) (Ready (stateOf used (now (heads .entry))) (now (pool .entry)) (now (handles .entry)) slot (lenOf (now (pool .entry)) (now (handles .entry)) slot + count)) r ⌝ }
+    ensures { λ r. ⌜ r ≡ rules.fromSliceNumber (stateOf used (now (heads .entry))) (now (pool .entry)) (now (handles .entry)) slot count ⌝ }
 {
     let entry = entry_number(used, pool, handles, slot);
     if entry != 0 {
         return entry;
     }
-    more_number(used, heads, pool, length_at(pool, handles[slot]), count)
-}
-
-// The number of `push`.
-pub fn push_number(
-    used: u32,
-    heads: &[u32; SizeClass::COUNT],
-    pool: &[u32],
-    handles: &[u32],
-    slot: usize,
-) -> u32
-    ensures { λ r. ⌜ Gives (rules.growNumber (stateOf used (now (heads .entry))) (now (pool .entry)) (now (handles .entry)) slot 1) (Ready (stateOf used (now (heads .entry))) (now (pool .entry)) (now (handles .entry)) slot (lenOf (now (pool .entry)) (now (handles .entry)) slot + 1)) r ⌝ }
-{
-    let entry = entry_number(used, pool, handles, slot);
-    if entry != 0 {
-        return entry;
+    if handles[slot] != 0 {
+        return 5;
     }
-    let len = length_at(pool, handles[slot]);
-    need_number(used, heads, pool, len, len + 1)
+    more_number(used, heads, pool, 0, count)
 }
 
 // The number of a call on the element at a position of the list in a slot.
 pub fn at_number(used: u32, pool: &[u32], handles: &[u32], slot: usize, position: usize) -> u32
-    ensures { λ r. ⌜ Gives (rules.atNumber used (now (pool .entry)) (now (handles .entry)) slot position) (HasAt (now (pool .entry)) (now (handles .entry)) slot position) r ⌝ }
+    ensures { λ r. ⌜ r ≡ rules.atNumber used (now (pool .entry)) (now (handles .entry)) slot position ⌝ }
 {
     let entry = entry_number(used, pool, handles, slot);
     if entry != 0 {
@@ -179,9 +159,30 @@ pub fn at_number(used: u32, pool: &[u32], handles: &[u32], slot: usize, position
     0
 }
 
+// The number of `deep_clone`.
+pub fn deep_clone_number(
+    used: u32,
+    heads: &[u32; SizeClass::COUNT],
+    pool: &[u32],
+    handles: &[u32],
+    slot: usize,
+    to: usize,
+) -> u32
+    ensures { λ r. ⌜ r ≡ rules.deepCloneNumber (stateOf used (now (heads .entry))) (now (pool .entry)) (now (handles .entry)) slot to ⌝ }
+{
+    let entry = entry_number_2(used, pool, handles, slot, to);
+    if entry != 0 {
+        return entry;
+    }
+    if handles[to] != 0 {
+        return 5;
+    }
+    need_number(used, heads, pool, 0, length_at(pool, handles[slot]))
+}
+
 // The number of `take`.
 pub fn take_number(used: u32, pool: &[u32], handles: &[u32], slot: usize, to: usize) -> u32
-    ensures { λ r. ⌜ Gives (rules.takeNumber used (now (pool .entry)) (now (handles .entry)) slot to) ((slot < length (now (handles .entry))) × (to < length (now (handles .entry)))) r ⌝ }
+    ensures { λ r. ⌜ r ≡ rules.takeNumber used (now (pool .entry)) (now (handles .entry)) slot to ⌝ }
 {
     let entry = entry_number_2(used, pool, handles, slot, to);
     if entry != 0 {
@@ -196,94 +197,26 @@ pub fn take_number(used: u32, pool: &[u32], handles: &[u32], slot: usize, to: us
     0
 }
 
-// The number of `remove` and `swap_remove`.
-pub fn remove_number(
+// The number of `push`: of growing by 1, which is never too much to count.
+pub fn push_number(
     used: u32,
     heads: &[u32; SizeClass::COUNT],
     pool: &[u32],
     handles: &[u32],
     slot: usize,
-    position: usize,
 ) -> u32
-    ensures { λ r. ⌜ Gives (rules.removeNumber (stateOf used (now (heads .entry))) (now (pool .entry)) (now (handles .entry)) slot position) ((HasAt (now (pool .entry)) (now (handles .entry)) slot position) × (Ready (stateOf used (now (heads .entry))) (now (pool .entry)) (now (handles .entry)) slot (lenOf (now (pool .entry)) (now (handles .entry)) slot - 1))) r ⌝ }
-{
-    let entry = at_number(used, pool, handles, slot, position);
-    if entry != 0 {
-        return entry;
-    }
-    let len = length_at(pool, handles[slot]);
-    need_number(used, heads, pool, len, len - 1)
-}
-
-// The number of `truncate`.
-pub fn truncate_number(
-    used: u32,
-    heads: &[u32; SizeClass::COUNT],
-    pool: &[u32],
-    handles: &[u32],
-    slot: usize,
-    n: usize,
-) -> u32
-    ensures { λ r. ⌜ Gives (rules.truncateNumber (stateOf used (now (heads .entry))) (now (pool .entry)) (now (handles .entry)) slot n) (Ready (stateOf used (now (heads .entry))) (now (pool .entry)) (now (handles .entry)) slot (min (lenOf (now (pool .entry)) (now (handles .entry)) slot) n)) r ⌝ }
+    ensures { λ r. ⌜ r ≡ rules.growNumber (stateOf used (now (heads .entry))) (now (pool .entry)) (now (handles .entry)) slot 1 ⌝ }
 {
     let entry = entry_number(used, pool, handles, slot);
     if entry != 0 {
         return entry;
     }
     let len = length_at(pool, handles[slot]);
-    if n >= len as usize {
-        return 0;
-    }
-    need_number(used, heads, pool, len, n as u32)
-}
-
-// The number of `insert`.
-pub fn insert_number(
-    used: u32,
-    heads: &[u32; SizeClass::COUNT],
-    pool: &[u32],
-    handles: &[u32],
-    slot: usize,
-    position: usize,
-) -> u32
-    ensures { λ r. ⌜ Gives (rules.growAtNumber (stateOf used (now (heads .entry))) (now (pool .entry)) (now (handles .entry)) slot position 1) ((position ≤ lenOf (now (pool .entry)) (now (handles .entry)) slot) × (Ready (stateOf used (now (heads .entry))) (now (pool .entry)) (now (handles .entry)) slot (lenOf (now (pool .entry)) (now (handles .entry)) slot + 1))) r ⌝ }
-{
-    let entry = entry_number(used, pool, handles, slot);
-    if entry != 0 {
-        return entry;
-    }
-    let len = length_at(pool, handles[slot]);
-    if position > len as usize {
-        return 4;
-    }
     need_number(used, heads, pool, len, len + 1)
 }
 
-// The number of `grow_at`.
-pub fn grow_at_number(
-    used: u32,
-    heads: &[u32; SizeClass::COUNT],
-    pool: &[u32],
-    handles: &[u32],
-    slot: usize,
-    position: usize,
-    count: usize,
-) -> u32
-    ensures { λ r. ⌜ Gives (rules.growAtNumber (stateOf used (now (heads .entry))) (now (pool .entry)) (now (handles .entry)) slot position count) ((position ≤ lenOf (now (pool .entry)) (now (handles .entry)) slot) × (Ready (stateOf used (now (heads .entry))) (now (pool .entry)) (now (handles .entry)) slot (lenOf (now (pool .entry)) (now (handles .entry)) slot + count))) r ⌝ }
-{
-    let entry = entry_number(used, pool, handles, slot);
-    if entry != 0 {
-        return entry;
-    }
-    let len = length_at(pool, handles[slot]);
-    if (len as usize) < position {
-        return 4;
-    }
-    more_number(used, heads, pool, len, count)
-}
-
-// The number of `from_slice`, of count elements.
-pub fn from_slice_number(
+// The number of `extend` by a count of elements.
+pub fn extend_number(
     used: u32,
     heads: &[u32; SizeClass::COUNT],
     pool: &[u32],
@@ -291,37 +224,13 @@ pub fn from_slice_number(
     slot: usize,
     count: usize,
 ) -> u32
-    ensures { λ r. ⌜ Gives (rules.fromSliceNumber (stateOf used (now (heads .entry))) (now (pool .entry)) (now (handles .entry)) slot count) (Ready (stateOf used (now (heads .entry))) (now (pool .entry)) (now (handles .entry)) slot (lenOf (now (pool .entry)) (now (handles .entry)) slot + count)) r ⌝ }
+    ensures { λ r. ⌜ r ≡ rules.growNumber (stateOf used (now (heads .entry))) (now (pool .entry)) (now (handles .entry)) slot count ⌝ }
 {
     let entry = entry_number(used, pool, handles, slot);
     if entry != 0 {
         return entry;
     }
-    if handles[slot] != 0 {
-        return 5;
-    }
-    more_number(used, heads, pool, 0, count)
-}
-
-// The number of `deep_clone`.
-pub fn deep_clone_number(
-    used: u32,
-    heads: &[u32; SizeClass::COUNT],
-    pool: &[u32],
-    handles: &[u32],
-    slot: usize,
-    to: usize,
-) -> u32
-    ensures { λ r. ⌜ Gives (rules.deepCloneNumber (stateOf used (now (heads .entry))) (now (pool .entry)) (now (handles .entry)) slot to) ((Entered used (now (pool .entry)) (now (handles .entry)) slot) × (Ready (stateOf used (now (heads .entry))) (now (pool .entry)) (now (handles .entry)) to (lenOf (now (pool .entry)) (now (handles .entry)) to + lenOf (now (pool .entry)) (now (handles .entry)) slot))) r ⌝ }
-{
-    let entry = entry_number_2(used, pool, handles, slot, to);
-    if entry != 0 {
-        return entry;
-    }
-    if handles[to] != 0 {
-        return 5;
-    }
-    need_number(used, heads, pool, 0, length_at(pool, handles[slot]))
+    more_number(used, heads, pool, length_at(pool, handles[slot]), count)
 }
 
 // The number of `copy_from`: of the range from start to end of the list in the slot source, to a position of the list in a slot.
@@ -336,7 +245,7 @@ pub fn copy_from_number(
     end: usize,
     position: usize,
 ) -> u32
-    ensures { λ r. ⌜ Gives (rules.copyFromNumber (stateOf used (now (heads .entry))) (now (pool .entry)) (now (handles .entry)) slot source start end position) (CanCopy (stateOf used (now (heads .entry))) (now (pool .entry)) (now (handles .entry)) slot source start end position) r ⌝ }
+    ensures { λ r. ⌜ r ≡ rules.copyFromNumber (stateOf used (now (heads .entry))) (now (pool .entry)) (now (handles .entry)) slot source start end position ⌝ }
 {
     let entry = entry_number_2(used, pool, handles, slot, source);
     if entry != 0 {
@@ -356,4 +265,90 @@ pub fn copy_from_number(
         return 5;
     }
     more_number(used, heads, pool, len, end - start)
+}
+
+// The number of `insert`, likewise.
+pub fn insert_number(
+    used: u32,
+    heads: &[u32; SizeClass::COUNT],
+    pool: &[u32],
+    handles: &[u32],
+    slot: usize,
+    position: usize,
+) -> u32
+    ensures { λ r. ⌜ r ≡ rules.growAtNumber (stateOf used (now (heads .entry))) (now (pool .entry)) (now (handles .entry)) slot position 1 ⌝ }
+{
+    let entry = entry_number(used, pool, handles, slot);
+    if entry != 0 {
+        return entry;
+    }
+    let len = length_at(pool, handles[slot]);
+    if position > len as usize {
+        return 4;
+    }
+    need_number(used, heads, pool, len, len + 1)
+}
+
+// The number of `remove` and `swap_remove`.
+pub fn remove_number(
+    used: u32,
+    heads: &[u32; SizeClass::COUNT],
+    pool: &[u32],
+    handles: &[u32],
+    slot: usize,
+    position: usize,
+) -> u32
+    ensures { λ r. ⌜ r ≡ rules.removeNumber (stateOf used (now (heads .entry))) (now (pool .entry)) (now (handles .entry)) slot position ⌝ }
+{
+    let entry = at_number(used, pool, handles, slot, position);
+    if entry != 0 {
+        return entry;
+    }
+    let len = length_at(pool, handles[slot]);
+    need_number(used, heads, pool, len, len - 1)
+}
+
+// The number of `truncate`.
+pub fn truncate_number(
+    used: u32,
+    heads: &[u32; SizeClass::COUNT],
+    pool: &[u32],
+    handles: &[u32],
+    slot: usize,
+    n: usize,
+) -> u32
+    ensures { λ r. ⌜ r ≡ rules.truncateNumber (stateOf used (now (heads .entry))) (now (pool .entry)) (now (handles .entry)) slot n ⌝ }
+{
+    let entry = entry_number(used, pool, handles, slot);
+    if entry != 0 {
+        return entry;
+    }
+    let len = length_at(pool, handles[slot]);
+    if n >= len as usize {
+        return 0;
+    }
+    need_number(used, heads, pool, len, n as u32)
+}
+
+// The number of `grow_at`.
+pub fn grow_at_number(
+    used: u32,
+    heads: &[u32; SizeClass::COUNT],
+    pool: &[u32],
+    handles: &[u32],
+    slot: usize,
+    position: usize,
+    count: usize,
+) -> u32
+    ensures { λ r. ⌜ r ≡ rules.growAtNumber (stateOf used (now (heads .entry))) (now (pool .entry)) (now (handles .entry)) slot position count ⌝ }
+{
+    let entry = entry_number(used, pool, handles, slot);
+    if entry != 0 {
+        return entry;
+    }
+    let len = length_at(pool, handles[slot]);
+    if (len as usize) < position {
+        return 4;
+    }
+    more_number(used, heads, pool, len, count)
 }

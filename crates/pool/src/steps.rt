@@ -2,10 +2,10 @@
 ghost use mathlib.Core.Path.{_≡_};
 ghost use Prim.Native.Nat.{ℕ, _+_, _≤_, _<_};
 ghost use lib.ListN.{length, set};
-ghost use Rattle.pool.specs.Numbers.{handleAt, poolLimit, stateOf};
+ghost use Rattle.pool.specs.Numbers.{poolLimit, stateOf};
 ghost use Rattle.pool.specs.Rules as rules;
 ghost use Rattle.pool.specs.Rules.{outcome, lenOf};
-ghost use Rattle.pool.specs.Steps.{CanResize, Leaves, ListAt, Ready, resized};
+ghost use Rattle.pool.specs.Steps.{CanResize, ListAt, Meets, Ready, resized};
 use super::Answer;
 use super::ListPool;
 use super::blocks;
@@ -70,7 +70,7 @@ pub fn resize(
     n: u32,
 ) -> Answer
     requires { ⌜ (CanResize state (length (now pool)) h len n) × (n ≡ 0 → 1 ≤ h) × (slot < length (now handles)) ⌝ }
-    ensures { λ r. ⌜ (outcome r (now (pool .exit)) (now (handles .exit)) ≡ resized state (now (pool .entry)) (now (handles .entry)) slot h len n) × (1 ≤ n → handleAt (now (handles .exit)) slot + n ≤ length (now (pool .entry))) ⌝ }
+    ensures { λ r. ⌜ Meets (length (now (pool .entry))) (resized state (now (pool .entry)) (now (handles .entry)) slot h len n) slot n r (now (pool .exit)) (now (handles .exit)) ⌝ }
 {
     if n == 0 {
         release(&mut state.heads, pool, handles, slot, h, len);
@@ -96,7 +96,7 @@ pub fn grow(
     count: usize,
 ) -> Answer
     requires { ⌜ Ready state (now pool) (now handles) slot (lenOf (now pool) (now handles) slot + count) ⌝ }
-    ensures { λ r. ⌜ Leaves (length (now (pool .entry))) (rules.grown state (now (pool .entry)) (now (handles .entry)) slot count) slot (lenOf (now (pool .entry)) (now (handles .entry)) slot + count) r (now (pool .exit)) (now (handles .exit)) ⌝ }
+    ensures { λ r. ⌜ Meets (length (now (pool .entry))) (rules.grown state (now (pool .entry)) (now (handles .entry)) slot count) slot (lenOf (now (pool .entry)) (now (handles .entry)) slot + count) r (now (pool .exit)) (now (handles .exit)) ⌝ }
 {
     let h = handles[slot];
     let len = numbers::length_at(pool, h);

@@ -1,3 +1,4 @@
+-- `shift_down` meets its contract. What the loop keeps: the words passed so far are where they go.
 use Prim.Native.Nat.{_+_, _-_, _≤_}
 use mathlib.Core.Path.{_≡_, refl}
 use native.Mathlib.Omega.{arith}

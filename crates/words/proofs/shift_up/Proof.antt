@@ -1,3 +1,4 @@
+-- `shift_up` meets its contract. What the loop keeps: the words passed so far, from the top, are where they go.
 use Prim.Native.Nat.{_+_, _-_, _≤_}
 use mathlib.Core.Path.{_≡_, refl}
 use native.Mathlib.Nat.{add-zero}

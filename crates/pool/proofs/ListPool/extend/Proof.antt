@@ -1,12 +1,14 @@
 -- `extend` meets its contract: refused with its number, or done.
+use mathlib.Core.Path.{sym, _∙_}
 use Rattle.pool.specs.Rules.{called, unless, numberOf, doneOf}
 use Rattle.pool.proofs.Tests.{tests}
+use Rattle.pool.specs.Facts.{grow-facts}
 use borrow.Author.Needs.{needs}
 use Rattle.pool.proofs.ListPool.extend.Statement.{statement}
 use Rattle.pool.proofs.ListPool.extend.Tie as tie
 
-grow-number-requires : tie.Need-grow-number-requires
-grow-number-requires c κs = search needs
+extend-number-requires : tie.Need-extend-number-requires
+extend-number-requires c κs = search needs
 
 refused-requires : tie.Need-refused-requires
 refused-requires c κs = search needs
@@ -19,10 +21,10 @@ same-length-2 c = search needs
 
 returns : tie.Need-returns
 unfolding called unless numberOf doneOf
-returns c = search (tests, ← c .before .before .grow-number .ensures .is, c .refused .ensures)
+returns c = search (tests, ← c .before .before .extend-number .ensures, c .refused .ensures)
 
 extend-done-requires : tie.Need-extend-done-requires
-extend-done-requires c κs = c .before .before .before .grow-number .ensures .fine (c .before .before .if1 .left)
+extend-done-requires c κs = (grow-facts _ _ _ _ _ (sym (c .before .before .before .extend-number .ensures) ∙ c .before .before .if1 .left))
 
 same-length-3 : tie.Need-same-length-3
 same-length-3 c = search needs
@@ -32,13 +34,13 @@ same-length-4 c = search needs
 
 returns-2 : tie.Need-returns-2
 unfolding called unless numberOf doneOf
-returns-2 c = search (tests, ← c .before .before .before .before .before .before .before .before .grow-number .ensures .is, ← c .before .before .before .before .extend-done .ensures)
+returns-2 c = search (tests, ← c .before .before .before .before .before .before .before .before .extend-number .ensures, ← c .before .before .before .before .extend-done .ensures)
 
 pub extend-spec : {M : Type 1} → statement M
 extend-spec =
     tie.close
     (tie.spec
-    grow-number-requires
+    extend-number-requires
     refused-requires
     same-length
     same-length-2

@@ -13,14 +13,14 @@ refused-requires c κs = search needs
 
 returns : tie.Need-returns
 unfolding called unless numberOf
-returns c = search (tests, ← c .before .before .entry-number .ensures .is, c .refused .ensures)
+returns c = search (tests, ← c .before .before .entry-number .ensures, c .refused .ensures)
 
 done-requires : tie.Need-done-requires
 done-requires c κs = search needs
 
 returns-2 : tie.Need-returns-2
 unfolding called unless numberOf doneOf isValidDone
-returns-2 c = search (tests, ← c .before .before .entry-number .ensures .is, c .done .ensures)
+returns-2 c = search (tests, ← c .before .before .entry-number .ensures, c .done .ensures)
 
 pub is-valid-spec : {M : Type 1} → statement M
 is-valid-spec =

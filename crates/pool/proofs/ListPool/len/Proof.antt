@@ -1,7 +1,9 @@
 -- `len` meets its contract: refused with its number, or done.
+use mathlib.Core.Path.{sym, _∙_}
 use native.Mathlib.Omega.{arith}
 use Rattle.pool.specs.Rules.{called, unless, numberOf, doneOf, lenDone}
 use Rattle.pool.proofs.Tests.{tests}
+use Rattle.pool.specs.Facts.{entry-facts}
 use borrow.Author.Needs.{needs}
 use Rattle.pool.proofs.ListPool.len.Statement.{statement}
 use Rattle.pool.proofs.ListPool.len.Tie as tie
@@ -14,23 +16,23 @@ refused-requires c κs = search needs
 
 returns : tie.Need-returns
 unfolding called unless numberOf
-returns c = search (tests, ← c .before .before .entry-number .ensures .is, c .refused .ensures)
+returns c = search (tests, ← c .before .before .entry-number .ensures, c .refused .ensures)
 
 mul-length-at : tie.Need-mul-length-at
-mul-length-at c = let f = c .before .entry-number .ensures .fine (omega arith) in omega arith
+mul-length-at c = let f = entry-facts _ _ _ _ (sym (c .before .entry-number .ensures) ∙ omega arith) in omega arith
 
 shared-slice-read-length-at : tie.Need-shared-slice-read-length-at
-shared-slice-read-length-at c = c .before .before .entry-number .ensures .fine (c .before .if1 .left) .inside
+shared-slice-read-length-at c = (entry-facts _ _ _ _ (sym (c .before .before .entry-number .ensures) ∙ c .before .if1 .left)) .inside
 
 length-at-requires : tie.Need-length-at-requires
-length-at-requires c κs = c .before .before .entry-number .ensures .fine (c .before .if1 .left) .list .below
+length-at-requires c κs = (entry-facts _ _ _ _ (sym (c .before .before .entry-number .ensures) ∙ c .before .if1 .left)) .list .below
 
 done-requires : tie.Need-done-requires
 done-requires c κs = search needs
 
 returns-2 : tie.Need-returns-2
 unfolding called unless numberOf doneOf lenDone
-returns-2 c = search (tests, ← c .before .before .before .before .entry-number .ensures .is, ← c .before .length-at .ensures, c .done .ensures)
+returns-2 c = search (tests, ← c .before .before .before .before .entry-number .ensures, ← c .before .length-at .ensures, c .done .ensures)
 
 pub len-spec : {M : Type 1} → statement M
 len-spec =

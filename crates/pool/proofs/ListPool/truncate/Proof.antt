@@ -1,6 +1,8 @@
 -- `truncate` meets its contract: refused with its number, or done.
+use mathlib.Core.Path.{sym, _∙_}
 use Rattle.pool.specs.Rules.{called, unless, numberOf, doneOf}
 use Rattle.pool.proofs.Tests.{tests}
+use Rattle.pool.specs.Facts.{truncate-facts}
 use borrow.Author.Needs.{needs}
 use Rattle.pool.proofs.ListPool.truncate.Statement.{statement}
 use Rattle.pool.proofs.ListPool.truncate.Tie as tie
@@ -19,10 +21,10 @@ same-length-2 c = search needs
 
 returns : tie.Need-returns
 unfolding called unless numberOf doneOf
-returns c = search (tests, ← c .before .before .truncate-number .ensures .is, c .refused .ensures)
+returns c = search (tests, ← c .before .before .truncate-number .ensures, c .refused .ensures)
 
 truncate-done-requires : tie.Need-truncate-done-requires
-truncate-done-requires c κs = c .before .before .before .truncate-number .ensures .fine (c .before .before .if1 .left)
+truncate-done-requires c κs = (truncate-facts _ _ _ _ _ (sym (c .before .before .before .truncate-number .ensures) ∙ c .before .before .if1 .left))
 
 same-length-3 : tie.Need-same-length-3
 same-length-3 c = search needs
@@ -32,7 +34,7 @@ same-length-4 c = search needs
 
 returns-2 : tie.Need-returns-2
 unfolding called unless numberOf doneOf
-returns-2 c = search (tests, ← c .before .before .before .before .before .before .before .before .truncate-number .ensures .is, ← c .before .before .before .before .truncate-done .ensures)
+returns-2 c = search (tests, ← c .before .before .before .before .before .before .before .before .truncate-number .ensures, ← c .before .before .before .before .truncate-done .ensures)
 
 pub truncate-spec : {M : Type 1} → statement M
 truncate-spec =

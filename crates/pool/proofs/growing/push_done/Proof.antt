@@ -1,16 +1,15 @@
 -- `push_done` meets its contract: the list stays in its block, or moves.
 use native.Mathlib.Omega.{arith}
 use Prim.Native.Nat.{_+_, _-_}
-use mathlib.Core.Path.{_≡_, refl, sym, _∙_}
-use mathlib.Core.Bool.{false}
+use mathlib.Core.Path.{refl, sym, _∙_}
 use borrow.Author.Tests.{not-true, not-false}
 use lib.ListN.{length-set}
-use Rattle.pool.specs.Numbers.{handleAt, needsBlock}
+use Rattle.pool.specs.Numbers.{handleAt}
 use Rattle.pool.specs.Blocks as blocks
 use Rattle.pool.specs.Rules.{lenOf}
 use Rattle.pool.specs.Steps.{taken}
 use Rattle.pool.specs.StepLaws.{stay-ends}
-use Rattle.pool.specs.CallLaws.{push-leaves}
+use Rattle.pool.specs.CallLaws.{push-meets}
 use borrow.Author.Needs.{needs}
 use Rattle.pool.proofs.growing.push_done.Statement.{statement}
 use Rattle.pool.proofs.growing.push_done.Tie as tie
@@ -43,8 +42,7 @@ sub-at : tie.Need-sub-at
 sub-at c =
     let a = c .before .before .before .before .before .before .before .args in
     let n = lenOf (a .pool .now) (a .handles .now) (a .slot) in
-    let stays : needsBlock n (n + 1) ≡ false = rw (← c .before .before .length-at .ensures) (sym (c .before .needs-block .ensures) ∙ not-true _ (c .if1 .taken)) in
-    let e = stay-ends (a .t1) _ (handleAt (a .handles .now) (a .slot)) n (n + 1) (c .before .before .before .before .before .before .before .pre .can) (omega arith) stays in
+    let e = stay-ends (a .t1) _ (handleAt (a .handles .now) (a .slot)) n (n + 1) (c .before .before .before .before .before .before .before .pre .can) {t = c .before .needs-block .result} (omega arith) (rw (← c .before .before .length-at .ensures) (c .before .needs-block .ensures)) (c .if1 .taken) in
     e .0
 
 add-pool : tie.Need-add-pool
@@ -57,8 +55,7 @@ slice-write-pool : tie.Need-slice-write-pool
 slice-write-pool c =
     let a = c .before .before .before .before .before .before .before .args in
     let n = lenOf (a .pool .now) (a .handles .now) (a .slot) in
-    let stays : needsBlock n (n + 1) ≡ false = rw (← c .before .before .length-at .ensures) (sym (c .before .needs-block .ensures) ∙ not-true _ (c .if1 .taken)) in
-    let e = stay-ends (a .t1) _ (handleAt (a .handles .now) (a .slot)) n (n + 1) (c .before .before .before .before .before .before .before .pre .can) (omega arith) stays in
+    let e = stay-ends (a .t1) _ (handleAt (a .handles .now) (a .slot)) n (n + 1) (c .before .before .before .before .before .before .before .pre .can) {t = c .before .needs-block .result} (omega arith) (rw (← c .before .before .length-at .ensures) (c .before .needs-block .ensures)) (c .if1 .taken) in
     omega (arith, e .1, c .before .before .length-at .ensures)
 
 add-seat : tie.Need-add-seat
@@ -68,8 +65,7 @@ seat-requires : tie.Need-seat-requires
 seat-requires c κs =
     let a = c .before .before .before .before .before .before .before .before .before .args in
     let n = lenOf (a .pool .now) (a .handles .now) (a .slot) in
-    let stays : needsBlock n (n + 1) ≡ false = rw (← c .before .before .before .before .length-at .ensures) (sym (c .before .before .before .needs-block .ensures) ∙ not-true _ (c .before .before .if1 .taken)) in
-    let e = stay-ends (a .t1) _ (handleAt (a .handles .now) (a .slot)) n (n + 1) (c .before .before .before .before .before .before .before .before .before .pre .can) (omega arith) stays in
+    let e = stay-ends (a .t1) _ (handleAt (a .handles .now) (a .slot)) n (n + 1) (c .before .before .before .before .before .before .before .before .before .pre .can) {t = c .before .before .before .needs-block .result} (omega arith) (rw (← c .before .before .before .before .length-at .ensures) (c .before .before .before .needs-block .ensures)) (c .before .before .if1 .taken) in
     simp length-set (omega (arith, e .1, c .before .before .before .before .length-at .ensures), c .before .before .before .before .before .before .before .before .before .pre .can .limit, c .before .before .before .before .before .before .before .before .before .pre .inside)
 
 done-requires : tie.Need-done-requires
@@ -86,10 +82,9 @@ unfolding blocks.moved
 returns c =
     let a = c .before .before .before .before .before .before .before .before .before .before .before .before .before .before .before .args in
     let n = lenOf (a .pool .now) (a .handles .now) (a .slot) in
-    let stays : needsBlock n (n + 1) ≡ false = rw (← c .before .before .before .before .before .before .before .before .before .before .length-at .ensures) (sym (c .before .before .before .before .before .before .before .before .before .needs-block .ensures) ∙ not-true _ (c .before .before .before .before .before .before .before .before .if1 .taken)) in
-    let e = stay-ends (a .t1) _ (handleAt (a .handles .now) (a .slot)) n (n + 1) (c .before .before .before .before .before .before .before .before .before .before .before .before .before .before .before .pre .can) (omega arith) stays in
+    let e = stay-ends (a .t1) _ (handleAt (a .handles .now) (a .slot)) n (n + 1) (c .before .before .before .before .before .before .before .before .before .before .before .before .before .before .before .pre .can) {t = c .before .before .before .before .before .before .before .before .before .needs-block .result} (omega arith) (rw (← c .before .before .before .before .before .before .before .before .before .before .length-at .ensures) (c .before .before .before .before .before .before .before .before .before .needs-block .ensures)) (c .before .before .before .before .before .before .before .before .if1 .taken) in
     let stayed = sym (c .before .before .before .before .before .before .before .before .before .needs-block .ensures) ∙ not-true _ (c .before .before .before .before .before .before .before .before .if1 .taken) in
-    push-leaves _ (a .t1) (a .pool .now) (a .handles .now) (a .slot) (a .element) (c .before .before .before .before .before .before .before .before .before .before .length-at .result) (record { block = handleAt (a .handles .now) (a .slot) - 1; state = a .t1; words = a .pool .now }) (c .before .before .before .before .before .before .before .before .before .before .before .before .before .before .before .pre .inside) (c .before .before .before .before .before .before .before .before .before .before .length-at .ensures) (rw stayed refl) (omega (arith, e .1, c .before .before .before .before .before .before .before .before .before .before .length-at .ensures)) (c .done .ensures) (c .before .before .before .before .before .seat .ensures .0) (c .before .before .before .before .before .seat .ensures .1)
+    push-meets _ (a .t1) (a .pool .now) (a .handles .now) (a .slot) (a .element) (c .before .before .before .before .before .before .before .before .before .before .length-at .result) (record { block = handleAt (a .handles .now) (a .slot) - 1; state = a .t1; words = a .pool .now }) (c .before .before .before .before .before .before .before .before .before .before .before .before .before .before .before .pre .inside) (c .before .before .before .before .before .before .before .before .before .before .length-at .ensures) (rw stayed refl) (omega (arith, e .1, c .before .before .before .before .before .before .before .before .before .before .length-at .ensures)) (c .done .ensures) (c .before .before .before .before .before .seat .ensures .0) (c .before .before .before .before .before .seat .ensures .1)
 
 add-moved : tie.Need-add-moved
 add-moved c = search needs
@@ -124,7 +119,7 @@ same-length-4 c = search needs
 returns-2 : tie.Need-returns-2
 returns-2 c =
     let a = c .before .before .before .before .before .before .before .before .before .before .before .before .before .before .before .before .before .before .before .before .args in
-    push-leaves _ (a .t1) (a .pool .now) (a .handles .now) (a .slot) (a .element) (c .before .before .before .before .before .before .before .before .before .before .before .before .before .before .before .length-at .result) (taken (c .before .before .before .before .before .before .before .before .before .before .moved .result) (c .before .before .before .before .before .before .before .before .before .before .moved .last .1 .0) (c .before .before .before .before .before .before .before .before .before .before .moved .last .1 .1 .0)) (c .before .before .before .before .before .before .before .before .before .before .before .before .before .before .before .before .before .before .before .before .pre .inside) (c .before .before .before .before .before .before .before .before .before .before .before .before .before .before .before .length-at .ensures) (c .before .before .before .before .before .before .before .before .before .before .moved .ensures .is) (c .before .before .before .before .before .before .before .before .before .before .moved .ensures .ends) (c .done2 .ensures) (c .before .before .before .before .before .seat2 .ensures .0) (c .before .before .before .before .before .seat2 .ensures .1)
+    push-meets _ (a .t1) (a .pool .now) (a .handles .now) (a .slot) (a .element) (c .before .before .before .before .before .before .before .before .before .before .before .before .before .before .before .length-at .result) (taken (c .before .before .before .before .before .before .before .before .before .before .moved .result) (c .before .before .before .before .before .before .before .before .before .before .moved .last .1 .0) (c .before .before .before .before .before .before .before .before .before .before .moved .last .1 .1 .0)) (c .before .before .before .before .before .before .before .before .before .before .before .before .before .before .before .before .before .before .before .before .pre .inside) (c .before .before .before .before .before .before .before .before .before .before .before .before .before .before .before .length-at .ensures) (c .before .before .before .before .before .before .before .before .before .before .moved .ensures .is) (c .before .before .before .before .before .before .before .before .before .before .moved .ensures .ends) (c .done2 .ensures) (c .before .before .before .before .before .seat2 .ensures .0) (c .before .before .before .before .before .seat2 .ensures .1)
 
 pub push-done-spec : {M : Type 1} → statement M
 push-done-spec =

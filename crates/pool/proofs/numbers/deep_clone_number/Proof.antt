@@ -1,10 +1,10 @@
 -- `deep_clone_number` meets its contract: an empty list grows by the other's length.
 use native.Mathlib.Omega.{arith}
 use mathlib.Core.Path.{sym, _∙_}
-use Rattle.pool.specs.Numbers.{_orElse_, given, stateOf}
+use Rattle.pool.specs.Numbers.{_orElse_, given}
 use Rattle.pool.specs.Rules.{deepCloneNumber}
-use Rattle.pool.specs.CallLaws.{ready-empty}
 use Rattle.pool.proofs.Tests.{tests}
+use Rattle.pool.specs.Facts.{entry-facts₂}
 use borrow.Author.Needs.{needs}
 use Rattle.pool.proofs.numbers.deep_clone_number.Statement.{statement}
 use Rattle.pool.proofs.numbers.deep_clone_number.Tie as tie
@@ -14,40 +14,35 @@ entry-number-2-requires c κs = search needs
 
 returns : tie.Need-returns
 unfolding deepCloneNumber _orElse_
-returns c = record { is = search (tests, ← c .before .entry-number-2 .ensures .is); fine = λ z. absurd (omega arith) }
+returns c = search (tests, ← c .before .entry-number-2 .ensures)
 
 mul-if2 : tie.Need-mul-if2
-mul-if2 c = let f = c .before .entry-number-2 .ensures .fine (omega arith) in omega arith
+mul-if2 c = let f = entry-facts₂ _ _ _ _ _ (sym (c .before .entry-number-2 .ensures) ∙ omega arith) in omega arith
 
 shared-slice-read-if2 : tie.Need-shared-slice-read-if2
-shared-slice-read-if2 c = c .before .before .entry-number-2 .ensures .fine (c .before .if1 .left) .1 .inside
+shared-slice-read-if2 c = (entry-facts₂ _ _ _ _ _ (sym (c .before .before .entry-number-2 .ensures) ∙ c .before .if1 .left)) .1 .inside
 
 returns-2 : tie.Need-returns-2
 unfolding deepCloneNumber given _orElse_
-returns-2 c = record { is = search (tests, ← c .before .before .before .entry-number-2 .ensures .is); fine = λ z. absurd (omega arith) }
+returns-2 c = search (tests, ← c .before .before .before .entry-number-2 .ensures)
 
 mul-length-at : tie.Need-mul-length-at
-mul-length-at c = let f = c .before .before .before .entry-number-2 .ensures .fine (omega arith) in omega arith
+mul-length-at c = let f = entry-facts₂ _ _ _ _ _ (sym (c .before .before .before .entry-number-2 .ensures) ∙ omega arith) in omega arith
 
 shared-slice-read-length-at : tie.Need-shared-slice-read-length-at
-shared-slice-read-length-at c = c .before .before .before .before .entry-number-2 .ensures .fine (c .before .before .before .if1 .left) .0 .inside
+shared-slice-read-length-at c = (entry-facts₂ _ _ _ _ _ (sym (c .before .before .before .before .entry-number-2 .ensures) ∙ c .before .before .before .if1 .left)) .0 .inside
 
 length-at-requires : tie.Need-length-at-requires
-length-at-requires c κs = c .before .before .before .before .entry-number-2 .ensures .fine (c .before .before .before .if1 .left) .0 .list .below
+length-at-requires c κs = (entry-facts₂ _ _ _ _ _ (sym (c .before .before .before .before .entry-number-2 .ensures) ∙ c .before .before .before .if1 .left)) .0 .list .below
 
 need-number-requires : tie.Need-need-number-requires
-need-number-requires c κs = c .before .before .before .before .before .entry-number-2 .ensures .fine (c .before .before .before .before .if1 .left) .0 .limits .below
+need-number-requires c κs = search needs
 
 returns-3 : tie.Need-returns-3
 unfolding deepCloneNumber given _orElse_
 returns-3 c =
-    let a = c .before .before .before .before .before .before .before .before .before .args in
     let n = c .before .length-at .ensures in
-    let f = c .before .before .before .before .before .before .entry-number-2 .ensures .fine (c .before .before .before .before .before .if1 .left) in
-    record {
-      is = search (tests, ← c .before .before .before .before .before .before .entry-number-2 .ensures .is, ← n, ← c .need-number .ensures);
-      fine = λ z. (f .0, ready-empty (stateOf (a .used) (a .heads .now)) (a .pool .now) (a .handles .now) (a .to) _ (f .1) (c .before .before .before .if2 .left) (rw (← n) (sym (c .need-number .ensures) ∙ z)));
-    }
+    search (tests, ← c .before .before .before .before .before .before .entry-number-2 .ensures, ← n, ← c .need-number .ensures)
 
 pub deep-clone-number-spec : {M : Type 1} → statement M
 deep-clone-number-spec =

@@ -1,9 +1,5 @@
 -- `entry_number` meets its contract: 1, 2 and 3 in their order.
-use native.Mathlib.Omega.{arith}
-use mathlib.Core.Path.{_≡_, sym, _∙_}
-use Prim.Native.Nat.{ℕ}
 use Rattle.pool.specs.Numbers.{_orElse_, given, entryNumber}
-use Rattle.pool.specs.Facts.{within-facts, entry-facts}
 use Rattle.pool.proofs.Tests.{tests}
 use borrow.Author.Needs.{needs}
 use Rattle.pool.proofs.numbers.entry_number.Statement.{statement}
@@ -14,11 +10,11 @@ over-limit-requires c κs = search needs
 
 returns : tie.Need-returns
 unfolding entryNumber given _orElse_
-returns c = record { is = search (tests, ← c .before .over-limit .ensures, c .if1 .taken); fine = λ z. absurd (omega arith) }
+returns c = search (tests, ← c .before .over-limit .ensures, c .if1 .taken)
 
 returns-2 : tie.Need-returns-2
 unfolding entryNumber given _orElse_
-returns-2 c = record { is = search (tests, ← c .before .before .over-limit .ensures, c .before .if1 .left); fine = λ z. absurd (omega arith) }
+returns-2 c = search (tests, ← c .before .before .over-limit .ensures, c .before .if1 .left)
 
 mul-sound-handle : tie.Need-mul-sound-handle
 mul-sound-handle c = search needs
@@ -27,22 +23,17 @@ shared-slice-read-sound-handle : tie.Need-shared-slice-read-sound-handle
 shared-slice-read-sound-handle c = search needs
 
 sound-handle-requires : tie.Need-sound-handle-requires
-sound-handle-requires c κs = let a = c .before .before .before .before .before .before .args in omega (arith, within-facts (a .used) _ _ (sym (c .before .before .before .over-limit .ensures) ∙ c .before .before .if1 .left))
+sound-handle-requires c κs = search needs
 
 returns-3 : tie.Need-returns-3
 unfolding entryNumber given _orElse_
 returns-3 c =
-    record {
-      is = search (tests, ← c .before .before .before .before .before .over-limit .ensures, c .before .before .before .before .if1 .left, ← c .before .sound-handle .ensures, c .if3 .taken);
-      fine = λ z. absurd (omega arith);
-    }
+    search (tests, ← c .before .before .before .before .before .over-limit .ensures, c .before .before .before .before .if1 .left, ← c .before .sound-handle .ensures, c .if3 .taken)
 
 returns-4 : tie.Need-returns-4
 unfolding entryNumber given _orElse_
 returns-4 c =
-    let a = c .before .before .before .before .before .before .before .before .args in
-    let e : _≡_ {A = ℕ} 0 (entryNumber (a .used) (a .pool .now) (a .handles .now) (a .slot)) = search (tests, ← c .before .before .before .before .before .over-limit .ensures, c .before .before .before .before .if1 .left, ← c .before .sound-handle .ensures, c .if3 .left) in
-    record { is = e; fine = λ z. entry-facts (a .used) (a .pool .now) (a .handles .now) (a .slot) (sym e) }
+    search (tests, ← c .before .before .before .before .before .over-limit .ensures, c .before .before .before .before .if1 .left, ← c .before .sound-handle .ensures, c .if3 .left)
 
 pub entry-number-spec : {M : Type 1} → statement M
 entry-number-spec =

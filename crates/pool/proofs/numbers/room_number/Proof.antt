@@ -1,5 +1,5 @@
-use borrow.Author.Tests.{le-leb, le-ltb, lt-ltb, eq-eqb}
 -- `room_number` meets its contract: 6 and 7 in their order.
+use borrow.Author.Tests.{le-leb, le-ltb, lt-ltb, eq-eqb}
 use native.Mathlib.Omega.{arith}
 use Rattle.sizes.specs.Laws.{class-below}
 use Rattle.pool.specs.Numbers.{_orElse_, given, badHead, noRoom, roomNumber}

@@ -76,7 +76,7 @@ returns : tie.Need-returns
 unfolding swapRemoveDone
 returns c =
     let a = c .before .before .before .before .before .before .before .before .before .before .before .before .before .before .args in
-    rw (← c .before .before .before .before .before .before .before .before .before .length-at .ensures, last-resized (a .state) _ (a .handles .now) (a .slot) _ (c .before .before .before .before .before .before .before .before .before .length-at .result) (omega (arith, c .before .before .before .before .before .before .before .before .before .length-at .ensures, c .before .before .before .before .before .before .before .before .before .before .before .before .before .before .pre .0 .before))) (c .before .before .before .before .resize .ensures .0)
+    rw (← c .before .before .before .before .before .before .before .before .before .length-at .ensures, last-resized (a .state) _ (a .handles .now) (a .slot) _ (c .before .before .before .before .before .before .before .before .before .length-at .result) (omega (arith, c .before .before .before .before .before .before .before .before .before .length-at .ensures, c .before .before .before .before .before .before .before .before .before .before .before .before .before .before .pre .0 .before))) (c .before .before .before .before .resize .ensures .is)
 
 pub swap-remove-done-spec : {M : Type 1} → statement M
 swap-remove-done-spec =

@@ -50,7 +50,7 @@ same-length-3 c = search needs
 returns-2 : tie.Need-returns-2
 returns-2 c =
     let a = c .before .before .before .before .before .before .before .before .before .before .before .before .before .args in
-    rw (truncate-resized (a .state) (a .pool .now) (a .handles .now) (a .slot) (a .n) (omega (arith, c .before .before .before .before .before .before .before .before .length-at .ensures, c .before .before .before .before .before .before .before .if1 .left)), ← c .before .before .before .before .before .before .before .before .length-at .ensures) (c .before .before .before .before .resize .ensures .0)
+    rw (truncate-resized (a .state) (a .pool .now) (a .handles .now) (a .slot) (a .n) (omega (arith, c .before .before .before .before .before .before .before .before .length-at .ensures, c .before .before .before .before .before .before .before .if1 .left)), ← c .before .before .before .before .before .before .before .before .length-at .ensures) (c .before .before .before .before .resize .ensures .is)
 
 pub truncate-done-spec : {M : Type 1} → statement M
 truncate-done-spec =

@@ -52,8 +52,8 @@ returns-2 c =
     let a = c .before .before .before .before .before .before .before .before .before .before .before .before .before .args in
     let n = c .before .before .before .before .before .before .before .before .length-at .ensures in
     record {
-      is = rw (grown-resized (a .state) (a .pool .now) (a .handles .now) (a .slot) (a .count) (rw (← n) (c .before .before .before .before .before .before .before .if1 .left)), ← n) (c .before .before .before .before .resize .ensures .0);
-      ends = rw (← n) (c .before .before .before .before .resize .ensures .1 (omega (arith, c .before .before .before .before .before .before .before .if1 .left)));
+      is = rw (grown-resized (a .state) (a .pool .now) (a .handles .now) (a .slot) (a .count) (rw (← n) (c .before .before .before .before .before .before .before .if1 .left)), ← n) (c .before .before .before .before .resize .ensures .is);
+      ends = rw (← n) (c .before .before .before .before .resize .ensures .ends);
     }
 
 pub grow-spec : {M : Type 1} → statement M
