@@ -156,8 +156,7 @@ unsafe extern "C" fn value_judged(
     }
 }
 
-/// The state by value, and all judged, cut into functions as the library was when it was first
-/// timed: one for the number, and one for the rest that takes the state by value and hands it back
+/// The state by value, and all judged, cut into functions as the library is: one for the number, and one for the rest that takes the state by value and hands it back
 /// in an answer of its own.
 #[inline(never)]
 unsafe extern "C" fn value_cut(
@@ -399,7 +398,7 @@ impl Pushes for OriginalCalled {
     }
 }
 form! {
-    /// The state by value, and all judged, cut into functions as the library was.
+    /// The state by value, and all judged, cut into functions as the library is.
     ValueCut, "value cut", |state, (p, n, h, m, slot, element)| {
         let answer = &value_cut(*state, p, n, h, m, slot, element);
         *state = answer.state;

@@ -166,7 +166,8 @@ fn row_08_remove_outside() {
 #[test]
 fn row_09_remove_from_nothing() {
     let (mut pool, mut lists) = original(&nothing());
-    panics("", || lists[0].remove(0, &mut pool));
+    let said = if DEBUG { "index < len" } else { "index out of bounds" };
+    panics(said, || lists[0].remove(0, &mut pool));
     refused(&nothing(), Call::Remove { slot: 0, position: 0 }, 4);
 }
 
@@ -544,6 +545,9 @@ fn row_40_a_shrink_that_needs_a_block() {
     let entry = world(&[4, 1, 2, 3, 4, M, M, M], &[], &[1]);
     let (mut pool, mut lists) = original(&entry);
     lists[0].truncate(3, &mut pool);
+    assert_eq!(words(&pool).len(), 12);
+    let (mut pool, mut lists) = original(&entry);
+    lists[0].remove(0, &mut pool);
     assert_eq!(words(&pool).len(), 12);
     refused(&entry, Call::Truncate { slot: 0, length: 3 }, 7);
     refused(&entry, Call::Remove { slot: 0, position: 0 }, 7);
