@@ -2,7 +2,7 @@
 use mathlib.Core.Path.{_≡_, sym, ap, _∙_}
 use mathlib.Core.List.{List, [], _∷_, _++_}
 use Prim.Native.Nat.{ℕ, _+_, _-_, _≤_}
-use native.Mathlib.Nat.{add-assoc, add-zero, zero-add}
+use native.Mathlib.Nat.{add-assoc, add-zero}
 use native.Mathlib.Omega.{arith}
 use borrow.Author.Tests.{eqb-true, ltb-false, ne-eqb, not-false}
 use lib.ListN.{length, set, take, drop, length-append}
@@ -10,11 +10,12 @@ use lib.Seq.{set-comm, getD-set-same, drop-append-seam, take-length}
 use Rattle.words.specs.Runs.{copied, stored}
 use Rattle.words.specs.RunLaws.{length-take-drop}
 use Rattle.pool.specs.declared.ListPool.{ListPool}
-use Rattle.pool.specs.Numbers.{handleAt, needNumber}
+use Rattle.pool.specs.Numbers.{handleAt}
 use Rattle.pool.specs.Blocks.{moved}
 use Rattle.pool.specs.Rules.{lenOf, fromSlice, push, extend, insert, growAt, numberOf, doneOf, grown, opened, growNumber, growAtNumber, fromSliceNumber, pushDone, extendDone, fromSliceDone, insertDone, growAtDone}
 use Rattle.pool.specs.Steps.{Ready}
-use Rattle.pool.specs.Facts.{Entered, given-zero, else-first, else-second, entry-facts, ready}
+use Rattle.pool.specs.Facts.{given-zero, else-first, else-second, entry-facts, ready}
+use Rattle.pool.specs.CallLaws.{ready-empty}
 use Rattle.sound.specs.Sound.{listAt, Holds, Leaves}
 use Rattle.sound.specs.Changes.{Has, Left, has, has-length, has-part, length-list, list-empty, written, grew}
 use Rattle.sound.specs.Sequences.{insertAll, openAt}
@@ -95,13 +96,6 @@ module _ {st : ListPool} {ws hs : List ℕ} {ls : List (List ℕ)} (P : Holds st
   unfolding numberOf doneOf
   extend-holds slot xs e = let r = grow-ready slot (length xs) e in extended (has slot P (r .inside)) xs r .holds
 
-  -- an empty list can get as many elements as there is a block for
-  pub new-ready : (slot count : ℕ) → Entered (st .used) ws hs slot → handleAt hs slot ≡ 0 → needNumber st ws 0 count ≡ 0
-      → (lenOf ws hs slot ≡ 0) × Ready st ws hs slot (lenOf ws hs slot + count)
-  new-ready slot count f z e =
-      let none = f .list .none z in
-      (none, ready st ws hs slot (lenOf ws hs slot + count) f (rw (none, zero-add count) e))
-
   -- `from_slice`: an empty list becomes the slice
   pub from-slice-holds : (slot : ℕ) (xs : List ℕ) → numberOf (fromSlice slot xs) st ws hs ≡ 0
       → Leaves (doneOf (fromSlice slot xs) st ws hs) (set ls slot xs)
@@ -109,8 +103,8 @@ module _ {st : ListPool} {ws hs : List ℕ} {ls : List (List ℕ)} (P : Holds st
   from-slice-holds slot xs e =
       let f = entry-facts (st .used) ws hs slot (else-first _ _ e) in
       let z = eqb-true (handleAt hs slot) 0 (not-false _ (given-zero 5 _ (omega arith) (else-first _ _ (else-second _ _ e)))) in
-      let (none, r) = new-ready slot (length xs) f z (else-second _ _ (else-second _ _ e)) in
-      rw (none, add-zero, list-empty P slot z) at (extended (has slot P (f .inside)) xs r .holds)
+      let r = ready-empty st ws hs slot (length xs) f z (else-second _ _ (else-second _ _ e)) in
+      rw (f .list .none z, add-zero, list-empty P slot z) at (extended (has slot P (f .inside)) xs r .holds)
 
   grow-at-ready : (slot p count : ℕ) → growAtNumber st ws hs slot p count ≡ 0 → (Ready st ws hs slot (lenOf ws hs slot + count)) × (p ≤ length (listAt ls slot))
   unfolding growAtNumber
