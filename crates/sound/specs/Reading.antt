@@ -1,6 +1,6 @@
 -- What the calls that read answer on a sound pool within the limits: what the plain sequence in the slot says. They change nothing.
 -- And the one value that a call that changes a list gives.
-use mathlib.Core.Path.{_≡_, sym, ap, _∙_}
+use mathlib.Core.Path.{_≡_, sym, ap}
 use mathlib.Core.Bool.{cond}
 use mathlib.Core.List.{List, []}
 use Prim.Native.Nat.{ℕ, _+_, _-_, _≤_, _<_}
