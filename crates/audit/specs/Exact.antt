@@ -3,6 +3,7 @@ use mathlib.Core.Path.{_≡_, refl, sym, ap, _∙_}
 use mathlib.Core.Bool.{true, true≢false}
 use mathlib.Core.List.{List, []}
 use mathlib.Core.Logic.{_≢_, _⊎_, inl, inr, _↔_}
+use mathlib.Core.Option.{Option·none-ne-some}
 use Prim.Native.Nat.{ℕ, _+_, _*_, _/_, _%_, _≤_, _<_}
 use native.Mathlib.Nat.{eq-zero-or-pos}
 use native.Mathlib.Omega.{arith}
@@ -47,7 +48,7 @@ module _ (st : ListPool) (ws hs map : List ℕ) where
           (λ z. (fs, accepted-cut W n (cleaned-clean st map room) A), λ S. q .number)
       go (refuses w l a q) = (
         λ z. absurd (omega arith),
-        λ (fs, C). let (m, b) = cut-accepted W (cleaned-clean st map room) C in let z : _≡_ {A = ℕ} 0 1 = cc in absurd (omega arith),
+        λ (fs, C). let (m, b) = cut-accepted W (cleaned-clean st map room) C in absurd (Option·none-ne-some m (sym a ∙ b)),
       )
 
   -- Of any pool and map whatever: 0 exactly where the pool is within 01's limits, the map is long enough and the pool is sound.

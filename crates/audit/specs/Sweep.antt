@@ -160,7 +160,7 @@ over-made ws (x ∷ xs) m (l, p, q, f) s o = let (m′, a) = over-made ws xs (se
 
 -- THE SWEEP
 
--- no block is over a word
+-- a block of no words is over none
 over-empty : (b s i : ℕ) → s ≡ 0 → over b s i ≡ 0
 over-empty b s i e = go (decLt i b)
   where
