@@ -4,10 +4,10 @@ use mathlib.Core.Path.{_≡_, refl}
 use mathlib.Core.List.{List, [], _∷_, map}
 use lib.ListN.{set, replicate}
 use Rattle.sizes.specs.Class.{classCount, classOf, sizeOf}
-use Rattle.words.specs.Runs.{filled, copied}
+use Rattle.words.specs.Runs.{copied}
 use Rattle.pool.specs.Numbers.{_orElse_, stateOf, lengthAt, soundHandle, soundHead, given, tooLong, overLimit, entryNumber, entryNumber₂, badHead, noRoom, roomNumber, needsBlock, needNumber}
-use Rattle.pool.specs.Blocks.{MAX, recycled, fresh, alloc, free, realloc, moved}
-use Rattle.pool.specs.Rules.{Outcome, done, refused, Call, len, push, insert, take, truncate, copyFrom, deepClone, clearPool, called, unless, numberOf, doneOf, takeNumber, lenDone, takeDone, pushDone, insertDone, cleared, clearDone, grown, opened, growNumber, growAtNumber, truncateNumber, truncateDone, copyFromNumber, copyFromDone, deepCloneNumber, deepCloneDone, clearPoolNumber, clearPoolDone}
+use Rattle.pool.specs.Blocks.{MAX, recycled, alloc, moved}
+use Rattle.pool.specs.Rules.{Outcome, done, refused, Call, len, push, insert, take, truncate, copyFrom, deepClone, clearPool, called, unless, numberOf, doneOf, takeNumber, pushDone, insertDone, grown, opened, growNumber, growAtNumber, truncateNumber, copyFromNumber, copyFromDone, deepCloneNumber, deepCloneDone, clearPoolNumber, clearPoolDone}
 
 abbrev headed : ℕ → ℕ → List ℕ
 headed a b = set (set (replicate classCount 0) 0 a) 1 b
@@ -52,5 +52,5 @@ table =
     ∷ []
 
 pub rows : map computed table ≡ table
-unfolding table computed called unless numberOf doneOf takeNumber lenDone takeDone pushDone insertDone cleared clearDone grown opened growNumber growAtNumber truncateNumber truncateDone copyFromNumber copyFromDone deepCloneNumber deepCloneDone clearPoolNumber clearPoolDone refusedRow _orElse_ lengthAt soundHandle soundHead given tooLong overLimit entryNumber entryNumber₂ badHead noRoom roomNumber needsBlock needNumber recycled fresh alloc free realloc moved filled copied classOf sizeOf
+unfolding table computed unless numberOf doneOf takeNumber pushDone insertDone grown opened growNumber growAtNumber truncateNumber copyFromNumber copyFromDone deepCloneNumber deepCloneDone clearPoolNumber clearPoolDone _orElse_ lengthAt soundHandle soundHead given tooLong overLimit entryNumber entryNumber₂ badHead noRoom roomNumber needsBlock needNumber recycled alloc moved copied classOf sizeOf
 rows = refl
