@@ -16,7 +16,7 @@ use Rattle.pool.specs.declared.ListPool.{ListPool}
 use Rattle.pool.specs.declared.Answer.{Answer}
 use Rattle.pool.specs.Numbers.{poolLimit, tableLimit, stateOf, handleAt, overLimit}
 use Rattle.pool.specs.Rules.{Outcome, answer, lenOf}
-use Rattle.pool.specs.Facts.{Within}
+use Rattle.pool.specs.Facts.{Within, within-limits}
 use Rattle.sound.specs.Sound.{Cut, Sound}
 use Rattle.sound.specs.Meaning.{Place, live, free, Block, startOf, wordsOf, Lies, OnChain, word-in-one, word-in-block, word-in-none, cut-unique}
 use Rattle.sound.specs.Cleared.{cleared-sound}
@@ -25,7 +25,7 @@ use Rattle.audit.specs.Audit.{groupOf, Audited, audited, audit}
 use Rattle.audit.specs.Marks.{made-length, made-past, made-has, made-from}
 use Rattle.audit.specs.Walks.{marksOf, Accepted, accepted-says}
 use Rattle.audit.specs.Covers.{marks-fit, accepted-cut, cut-accepted}
-use Rattle.audit.specs.Cases.{cleaned, Case, limit, short, accepts, refuses, audit-case, within-limits, cleaned-clean, cleaned-past}
+use Rattle.audit.specs.Cases.{cleaned, Case, limit, short, accepts, refuses, audit-case, cleaned-clean, cleaned-past}
 use Rattle.audit.specs.Owners.{markOf, place-mark, mark-place, start-fours}
 
 -- the word that the audit leaves in the map for the group g
