@@ -101,7 +101,7 @@ pub live-some : (ws : List ℕ) (i h : ℕ) → 0 < h → liveOver ws i h ≡ ov
 unfolding liveOver
 live-some ws i h p = rw (ne-eqb h 0 (omega arith))
 
--- only a slot of the table has one
+-- a handle that is not 0 stands in a slot of the table
 pub handle-inside : (hs : List ℕ) (slot : ℕ) → 0 < handleAt hs slot → slot < length hs
 handle-inside hs slot p = go (decLt slot (length hs))
   where
