@@ -7,12 +7,12 @@ use Prim.Native.Nat.{ℕ, _/_, _≤_, _<_}
 use native.Mathlib.Nat.{zero-add}
 use native.Mathlib.Omega.{arith}
 use native.Mathlib.Decide.{decLt}
-use borrow.Author.Tests.{lt-ltb, le-ltb, eq-eqb}
+use borrow.Author.Tests.{lt-ltb, le-ltb}
 use lib.ListN.{length, getD, replicate, length-replicate}
 use Rattle.words.specs.Runs.{filled}
 use Rattle.words.specs.RunLaws.{length-filled, getD-filled-within, getD-sets-above}
 use Rattle.pool.specs.declared.ListPool.{ListPool}
-use Rattle.pool.specs.Numbers.{_orElse_, given, tooLong, overLimit}
+use Rattle.pool.specs.Numbers.{_orElse_, given, overLimit}
 use Rattle.pool.specs.Rules.{answer}
 use Rattle.pool.specs.Facts.{Within, within-facts}
 use Rattle.audit.specs.Audit.{Audited, audited, accepted, auditNumber, verdict, audit}
@@ -53,12 +53,6 @@ module _ (st : ListPool) (ws hs map : List ℕ) where
       outer : (t : Bool) → overLimit (st .used) (length ws) (length hs) ≡ t → Case
       outer true e = limit e (ends (rw e))
       outer false e = middle e (decLt (length map) (st .used / 4))
-
--- no limit is passed within the limits
-pub within-limits : {used pool table : ℕ} → Within used pool table → overLimit used pool table ≡ false
-unfolding overLimit tooLong
-within-limits {used} {pool} {table} W =
-    rw (le-ltb _ _ (W .pool-limit), le-ltb _ _ (W .table-limit), le-ltb _ _ (W .below), eq-eqb _ _ (W .fours))
 
 -- the map that is marked is clean, and past its first words it is as it was
 pub cleaned-clean : (st : ListPool) (map : List ℕ) → st .used / 4 ≤ length map → Clean (st .used / 4) (cleaned st map)

@@ -3,6 +3,7 @@ use mathlib.Core.Path.{_≡_, refl, sym, ap, _∙_}
 use mathlib.Core.Bool.{true, true≢false}
 use mathlib.Core.List.{List, []}
 use mathlib.Core.Logic.{_≢_, _⊎_, inl, inr, _↔_}
+use mathlib.Core.Option.{Option·none-ne-some}
 use Prim.Native.Nat.{ℕ, _+_, _*_, _/_, _%_, _≤_, _<_}
 use native.Mathlib.Nat.{eq-zero-or-pos}
 use native.Mathlib.Omega.{arith}
@@ -15,7 +16,7 @@ use Rattle.pool.specs.declared.ListPool.{ListPool}
 use Rattle.pool.specs.declared.Answer.{Answer}
 use Rattle.pool.specs.Numbers.{poolLimit, tableLimit, stateOf, handleAt, overLimit}
 use Rattle.pool.specs.Rules.{Outcome, answer, lenOf}
-use Rattle.pool.specs.Facts.{Within}
+use Rattle.pool.specs.Facts.{Within, within-limits}
 use Rattle.sound.specs.Sound.{Cut, Sound}
 use Rattle.sound.specs.Meaning.{Place, live, free, Block, startOf, wordsOf, Lies, OnChain, word-in-one, word-in-block, word-in-none, cut-unique}
 use Rattle.sound.specs.Cleared.{cleared-sound}
@@ -24,7 +25,7 @@ use Rattle.audit.specs.Audit.{groupOf, Audited, audited, audit}
 use Rattle.audit.specs.Marks.{made-length, made-past, made-has, made-from}
 use Rattle.audit.specs.Walks.{marksOf, Accepted, accepted-says}
 use Rattle.audit.specs.Covers.{marks-fit, accepted-cut, cut-accepted}
-use Rattle.audit.specs.Cases.{cleaned, Case, limit, short, accepts, refuses, audit-case, within-limits, cleaned-clean, cleaned-past}
+use Rattle.audit.specs.Cases.{cleaned, Case, limit, short, accepts, refuses, audit-case, cleaned-clean, cleaned-past}
 use Rattle.audit.specs.Owners.{markOf, place-mark, mark-place, start-fours}
 
 -- the word that the audit leaves in the map for the group g
@@ -47,7 +48,7 @@ module _ (st : ListPool) (ws hs map : List ℕ) where
           (λ z. (fs, accepted-cut W n (cleaned-clean st map room) A), λ S. q .number)
       go (refuses w l a q) = (
         λ z. absurd (omega arith),
-        λ (fs, C). let (m, b) = cut-accepted W (cleaned-clean st map room) C in let z : _≡_ {A = ℕ} 0 1 = cc in absurd (omega arith),
+        λ (fs, C). let (m, b) = cut-accepted W (cleaned-clean st map room) C in absurd (Option·none-ne-some m (sym a ∙ b)),
       )
 
   -- Of any pool and map whatever: 0 exactly where the pool is within 01's limits, the map is long enough and the pool is sound.

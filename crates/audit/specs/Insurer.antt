@@ -1,23 +1,22 @@
 -- The insurer's theorem: if the audit answers 0, then every element that a slot's list reports lies in a block that belongs to that slot
 -- and to no other slot and no chain.
-use mathlib.Core.Path.{_≡_, refl, ap, _∙_}
+use mathlib.Core.Path.{_≡_}
 use mathlib.Core.List.{List}
 use mathlib.Core.Logic.{_≢_}
 use Prim.Native.Nat.{ℕ, _+_, _<_}
 use native.Mathlib.Omega.{arith}
-use native.Mathlib.Decide.{decLt}
-use lib.ListN.{length, getD, List·getD-eq-default}
-use Rattle.words.specs.RunLaws.{getD-take-drop}
+use lib.ListN.{length, getD}
 use Rattle.sizes.specs.Class.{classCount}
 use Rattle.sizes.specs.Laws.{class-holds}
 use Rattle.pool.specs.declared.ListPool.{ListPool}
-use Rattle.pool.specs.Numbers.{handleAt, lengthAt}
+use Rattle.pool.specs.Numbers.{handleAt}
 use Rattle.pool.specs.Rules.{lenOf, get, done, called}
 use Rattle.pool.specs.Facts.{Within, list-at}
-use Rattle.sound.specs.Sound.{Cut, lists, Holds}
-use Rattle.sound.specs.Held.{length-none}
+use Rattle.sound.specs.Sound.{Cut}
+use Rattle.sound.specs.Held.{handle-inside}
 use Rattle.sound.specs.Meaning.{live, free, Lies, blocks-apart}
-use Rattle.sound.specs.Changes.{list-is, length-list}
+use Rattle.sound.specs.Changes.{list-element, length-list}
+use Rattle.sound.specs.Kept.{its-lists}
 use Rattle.sound.specs.Reading.{get-reads}
 use Rattle.audit.specs.Audit.{audit}
 use Rattle.audit.specs.Exact.{audit-zero}
@@ -36,14 +35,11 @@ element-lies {st} {ws} {hs} W C slot p l =
     let some = at .some (omega arith) in
     let block = at .block (omega arith) in
     let fits = class-holds (lenOf ws hs slot) (omega arith) in
-    record { block = (inside (decLt slot (length hs)), λ z. omega arith); from = omega arith; to = omega arith }
-  where
-    inside : Dec (slot < length hs) → slot < length hs
-    inside (yes b) = b
-    inside (no b) = absurd (omega (arith, ap (lengthAt ws) (List·getD-eq-default hs 0 {n = slot} (omega arith)), length-none ws))
+    record { block = (handle-inside hs slot some, λ z. omega arith); from = omega arith; to = omega arith }
 
 -- "If the audit answers 0, then every element that a slot's list reports lies in a block that belongs to that slot and to no other slot and no chain":
--- there is one way to cut the used words into live and free blocks, and in it this holds of the word of every position below every list's length.
+-- there is a way to cut the used words into live and free blocks, by `cut-unique` only one, and in it this holds of the word of every position
+-- below every list's length.
 pub elements-belong : (st : ListPool) (ws hs map : List ℕ) → length (st .heads) ≡ classCount → audit st ws hs map .answer .number ≡ 0
     → (fs : List (List ℕ)) × Cut st ws hs fs × ((slot p : ℕ) → p < lenOf ws hs slot → Belongs ws hs fs slot (handleAt hs slot + p))
 elements-belong st ws hs map n z =
@@ -64,6 +60,5 @@ pub element-reported : (st : ListPool) (ws hs map : List ℕ) → length (st .he
     → (slot p : ℕ) → slot < length hs → p < lenOf ws hs slot → called (get slot p) st ws hs ≡ done (getD ws (handleAt hs slot + p) 0) st ws hs
 element-reported st ws hs map n z slot p b l =
     let (W, room, S) = audit-zero st ws hs map n .0 z in
-    let H : Holds st ws hs (lists ws hs) = record { sound = S; within = W; are = refl } in
-    let same = ap (λ (xs : List ℕ). getD xs p 0) (list-is H slot) ∙ getD-take-drop ws (handleAt hs slot) (lenOf ws hs slot) p l in
-    get-reads H slot p b (omega (arith, length-list H slot)) ∙ ap (λ (x : ℕ). done x st ws hs) same
+    let H = its-lists S W in
+    rw (list-element H slot p l) (get-reads H slot p b (omega (arith, length-list H slot)))

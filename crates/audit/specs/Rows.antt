@@ -1,13 +1,13 @@
 -- Rows beside the bench sheet, most of them on states that no call leaves.
 use Prim.Native.Nat.{ℕ}
 use mathlib.Core.Path.{_≡_, refl}
-use mathlib.Core.List.{List, [], _∷_}
+use mathlib.Core.List.{List, [], _∷_, map}
 use lib.ListN.{set, replicate}
-use Rattle.sizes.specs.Class.{classCount, classOf, sizeOf, sizeWord}
-use Rattle.words.specs.Runs.{filled, copied, stored}
+use Rattle.sizes.specs.Class.{classCount, classOf, sizeOf}
+use Rattle.words.specs.Runs.{copied}
 use Rattle.pool.specs.Numbers.{_orElse_, stateOf, lengthAt, soundHandle, soundHead, given, tooLong, overLimit, entryNumber, entryNumber₂, badHead, noRoom, roomNumber, needsBlock, needNumber}
-use Rattle.pool.specs.Blocks.{MAX, recycled, fresh, alloc, free, realloc, moved}
-use Rattle.pool.specs.Rules.{Outcome, done, refused, Call, len, push, insert, take, truncate, copyFrom, deepClone, clearPool, called, unless, numberOf, doneOf, atNumber, takeNumber, lenDone, takeDone, pushDone, insertDone, cleared, clearDone, lastRemoved, grown, opened, growNumber, growAtNumber, truncateNumber, truncateDone, copyFromNumber, copyFromDone, deepCloneNumber, deepCloneDone, clearPoolNumber, clearPoolDone}
+use Rattle.pool.specs.Blocks.{MAX, recycled, alloc, moved}
+use Rattle.pool.specs.Rules.{Outcome, done, refused, Call, len, push, insert, take, truncate, copyFrom, deepClone, clearPool, called, unless, numberOf, doneOf, takeNumber, pushDone, insertDone, grown, opened, growNumber, growAtNumber, truncateNumber, copyFromNumber, copyFromDone, deepCloneNumber, deepCloneDone, clearPoolNumber, clearPoolDone}
 
 abbrev headed : ℕ → ℕ → List ℕ
 headed a b = set (set (replicate classCount 0) 0 a) 1 b
@@ -22,10 +22,6 @@ computed (row call used heads ws hs o) = row call used heads ws hs (called call 
 
 unfoldable pub refusedRow : Call → ℕ → List ℕ → List ℕ → List ℕ → ℕ → Row
 refusedRow call used heads ws hs n = row call used heads ws hs (refused (stateOf used heads) ws hs n)
-
-unfoldable pub map : (Row → Row) → List Row → List Row
-map f [] = []
-map f (x ∷ xs) = f x ∷ map f xs
 
 unfoldable pub table : List Row
 unfolding refusedRow
@@ -56,5 +52,5 @@ table =
     ∷ []
 
 pub rows : map computed table ≡ table
-unfolding map table computed called unless numberOf doneOf atNumber takeNumber lenDone takeDone pushDone insertDone cleared clearDone lastRemoved grown opened growNumber growAtNumber truncateNumber truncateDone copyFromNumber copyFromDone deepCloneNumber deepCloneDone clearPoolNumber clearPoolDone refusedRow _orElse_ lengthAt soundHandle soundHead given tooLong overLimit entryNumber entryNumber₂ badHead noRoom roomNumber needsBlock needNumber recycled fresh alloc free realloc moved filled copied stored classOf sizeOf sizeWord
+unfolding table computed unless numberOf doneOf takeNumber pushDone insertDone grown opened growNumber growAtNumber truncateNumber copyFromNumber copyFromDone deepCloneNumber deepCloneDone clearPoolNumber clearPoolDone _orElse_ lengthAt soundHandle soundHead given tooLong overLimit entryNumber entryNumber₂ badHead noRoom roomNumber needsBlock needNumber recycled alloc moved copied classOf sizeOf
 rows = refl

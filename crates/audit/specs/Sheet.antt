@@ -21,8 +21,8 @@ after o [] = o
 after o (call ∷ calls) = after (called call (o .answer .state) (o .words) (o .handles)) calls
 
 -- the elements of the list in a slot
-unfoldable pub listAt : Outcome → ℕ → List ℕ
-listAt o slot = let h = handleAt (o .handles) slot in take (lengthAt (o .words) h) (drop h (o .words))
+unfoldable pub listIn : Outcome → ℕ → List ℕ
+listIn o slot = let h = handleAt (o .handles) slot in take (lengthAt (o .words) h) (drop h (o .words))
 
 -- A row: after these calls in a cleared pool of n words, this is the outcome of the last; or this list is in slot 0; or the audit, with a slot
 -- set to a handle before and a map of four words, gives this number and map; or these lengths have these classes.
@@ -39,9 +39,9 @@ auditAfter o slot h = audit (o .answer .state) (o .words) (set (o .handles) slot
 
 -- the same row, with what the rules give
 unfoldable pub computed : Row → Row
-unfolding after clearedPool listAt auditAfter
+unfolding after clearedPool listIn auditAfter
 computed (outcomes n calls o) = outcomes n calls (after (clearedPool n) calls)
-computed (lists n calls xs) = lists n calls (listAt (after (clearedPool n) calls) 0)
+computed (lists n calls xs) = lists n calls (listIn (after (clearedPool n) calls) 0)
 computed (audits n calls slot h number map) =
     let a = auditAfter (after (clearedPool n) calls) slot h in
     audits n calls slot h (a .answer .number) (a .map)

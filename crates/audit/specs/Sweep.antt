@@ -1,7 +1,7 @@
 -- How often the blocks of a map's marks are over a word, and what the sweep says of it: it passes exactly where they follow one another
 -- without gap or overlap, up to the end. Throughout `ws` is the pool's words and `i` a word of it.
 use mathlib.Core.Path.{_≡_, refl, sym, ap, _∙_}
-use mathlib.Core.Bool.{Bool, true, false, cond, not, _&&_, and-eq-true-iff}
+use mathlib.Core.Bool.{Bool, true, false, cond, not, _&&_}
 use mathlib.Core.List.{List, [], _∷_}
 use mathlib.Core.Logic.{_⊎_, inl, inr}
 use Prim.Native.Nat.{ℕ, zero, suc, _+_, _-_, _*_, _≤_, _<_}
@@ -14,6 +14,7 @@ use lib.Seq.{getD-set-same, getD-set-other}
 use lib.Dec.{eqb}
 use Rattle.sizes.specs.Class.{classOf, sizeOf, sizeWord}
 use Rattle.sizes.specs.Laws.{class-le, size-least, size-fours}
+use Rattle.pool.specs.Facts.{both}
 use Rattle.sound.specs.Sound.{over}
 use Rattle.sound.specs.Sums.{over-in, over-left, over-right, over-add}
 use Rattle.audit.specs.Audit.{freeMark, classAt, groupsAt, swept}
@@ -160,7 +161,7 @@ over-made ws (x ∷ xs) m (l, p, q, f) s o = let (m′, a) = over-made ws xs (se
 
 -- THE SWEEP
 
--- no block is over a word
+-- a block of no words is over none
 over-empty : (b s i : ℕ) → s ≡ 0 → over b s i ≡ 0
 over-empty b s i e = go (decLt i b)
   where
@@ -171,9 +172,6 @@ over-empty b s i e = go (decLt i b)
 -- two runs of groups end to end are one
 over-groups : (g n k rest i : ℕ) → n ≡ k + rest → over (g * 4) (n * 4) i ≡ over (g * 4) (k * 4) i + over ((g + k) * 4) (rest * 4) i
 over-groups g n k rest i e = rw (e, add-mul k rest 4, add-mul g k 4) (over-add (g * 4) (k * 4) (rest * 4) i)
-
-both : {a b : Bool} → (a && b) ≡ true → (a ≡ true) × (b ≡ true)
-both {a} {b} e = and-eq-true-iff a b .0 e
 
 module _ (ws : List ℕ) where
   -- a step of a sweep that passes: a block starts at the group g, or an earlier one goes on

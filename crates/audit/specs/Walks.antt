@@ -4,7 +4,7 @@ use mathlib.Core.Path.{_≡_, refl, sym, ap, _∙_}
 use mathlib.Core.Bool.{Bool, true, false, cond}
 use mathlib.Core.List.{List, [], _∷_, _++_}
 use mathlib.Core.Logic.{_⊎_, inl, inr, _↔_}
-use mathlib.Core.Option.{Option, none, some}
+use mathlib.Core.Option.{Option, none, some, Option·none-ne-some}
 use Prim.Native.Nat.{ℕ, zero, suc, _+_, _-_, _/_, _≤_, _<_}
 use native.Mathlib.Nat.{eq-zero-or-pos, le-of-suc-le-suc}
 use native.Mathlib.Omega.{arith}
@@ -38,11 +38,11 @@ chainMarks c (bs ∷ fs) = freeMarks c bs ++ chainMarks (suc c) fs
 -- what it says that a step gives a map: of a test, of two steps, and of a mark and a step
 cond-some : (t : Bool) {o : Option (List ℕ)} {m : List ℕ} → cond t o none ≡ some m → (t ≡ true) × (o ≡ some m)
 cond-some true e = (refl, e)
-cond-some false e = let z : _≡_ {A = ℕ} 0 1 = cc in absurd (omega arith)
+cond-some false e = absurd (Option·none-ne-some _ e)
 
 then-some : (o : Option (List ℕ)) (next : List ℕ → Option (List ℕ)) (m′ : List ℕ) → andThen o next ≡ some m′ ↔ ((m : List ℕ) × (o ≡ some m) × (next m ≡ some m′))
 unfolding andThen
-then-some none next m′ = (λ e. let z : _≡_ {A = ℕ} 0 1 = cc in absurd (omega arith), λ (m, e, d). let z : _≡_ {A = ℕ} 0 1 = cc in absurd (omega arith))
+then-some none next m′ = (λ e. absurd (Option·none-ne-some _ e), λ (m, e, d). absurd (Option·none-ne-some _ e))
 then-some (some m) next m′ = (λ e. (m, refl, e), λ (k, e, d). ap next (cc) ∙ d)
 
 mark-then : (h v : ℕ) (m : List ℕ) (next : List ℕ → Option (List ℕ)) (m′ : List ℕ)
@@ -53,7 +53,7 @@ mark-then h v m next m′ = (λ e. go (eqb (getD m (groupOf h) 0) 0) refl e, λ 
     go : (t : Bool) → eqb (getD m (groupOf h) 0) 0 ≡ t → andThen (cond t (some (set m (groupOf h) v)) none) next ≡ some m′
         → (getD m (groupOf h) 0 ≡ 0) × (next (set m (groupOf h) v) ≡ some m′)
     go true q e = (eqb-true _ _ q, e)
-    go false q e = let z : _≡_ {A = ℕ} 0 1 = cc in absurd (omega arith)
+    go false q e = absurd (Option·none-ne-some _ e)
 
 module _ (used : ℕ) (ws : List ℕ) where
   -- THE TABLE

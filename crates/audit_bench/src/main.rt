@@ -54,7 +54,7 @@ fn added(
     answer.state
 }
 
-// Puts a list into each slot, until the pool is full.
+// Puts a list into each slot for which the pool has room.
 fn filled(
     state: ListPool,
     pool: &mut [u32],

@@ -1,5 +1,5 @@
 // The interface for C, which include/maaliskur.h declares: a slice is there a pointer and then a length. Each function only forwards, and its contract
-// is that of the call that it forwards to.
+// is that of the call that it forwards to; `maaliskur_size` gives the size in 32 bits, by a contract of its own.
 ghost use mathlib.Core.Path.{_≡_};
 ghost use Rattle.sizes.specs.Class.{ClassOf};
 ghost use Rattle.pool.specs.Rules as rules;

@@ -6,7 +6,7 @@ use mathlib.Core.Bool.{Bool, true, false, cond, not, _&&_, _||_, and-eq-true-iff
 use mathlib.Core.List.{List}
 use lib.ListN.{length, getD}
 use lib.Dec.{ltb, leb, eqb}
-use borrow.Author.Tests.{ltb-true, ltb-false, leb-true, leb-false, eqb-true, eqb-false, eq-eqb, ne-eqb, lt-ltb, lt-leb, le-leb, not-false}
+use borrow.Author.Tests.{ltb-true, ltb-false, leb-true, leb-false, eqb-true, eqb-false, eq-eqb, ne-eqb, lt-ltb, le-ltb, lt-leb, le-leb, not-false}
 use native.Mathlib.Nat.{eq-zero-or-pos, zero-add}
 use native.Mathlib.Omega.{arith}
 use Rattle.sizes.specs.Class.{longest, classOf, sizeOf}
@@ -18,7 +18,7 @@ use Rattle.pool.specs.Steps.{ListAt, CanAlloc, Ready, HasAt, CanCopy}
 
 -- TESTS
 
-both : {a b : Bool} → (a && b) ≡ true → (a ≡ true) × (b ≡ true)
+pub both : {a b : Bool} → (a && b) ≡ true → (a ≡ true) × (b ≡ true)
 both {a} {b} e = and-eq-true-iff a b .0 e
 
 pub neither : {a b : Bool} → (a || b) ≡ false → (a ≡ false) × (b ≡ false)
@@ -67,6 +67,10 @@ within-facts used pool table e =
       below = ltb-false _ _ (b .1);
       fours = eqb-true _ _ (not-false _ (a .1));
     }
+
+pub within-limits : {used pool table : ℕ} → Within used pool table → overLimit used pool table ≡ false
+unfolding overLimit tooLong
+within-limits W = rw (le-ltb _ _ (W .pool-limit), le-ltb _ _ (W .table-limit), le-ltb _ _ (W .below), eq-eqb _ _ (W .fours))
 
 -- 3: a handle that is not 0, and is locally sound
 pub record Live (used : ℕ) (ws : List ℕ) (h : ℕ) : Type 0 where

@@ -1,4 +1,4 @@
--- The laws of classes and sizes, each stated once over the class and never by cases of it. Only the last part reads the three limits.
+-- The laws of classes and sizes, each stated once over the class and never by cases of it. Only the last part reads the number of classes and the longest length.
 use mathlib.Core.Path.{_≡_, refl, sym, ap, _∙_}
 use mathlib.Core.Logic.{_↔_}
 use Prim.Native.Nat.{ℕ, zero, suc, pred, _+_, _-_, _*_, _/_, _%_, _^_, _≤_, _<_, suc-le-suc}
@@ -101,7 +101,7 @@ class-beyond : (n : ℕ) → 2 ^ 32 ≤ n → classOf n ≡ 30
 unfolding classOf
 class-beyond n h = rw (leading-none 32 (bitOr 3 n) (omega (arith, or-three n)))
 
--- So of any number whatever: where its class has a smaller size, a block of it holds the length word and n elements
+-- So of any number whatever: where the size of its class is below 2^32, a block of it holds the length word and n elements
 pub class-holds : (n : ℕ) → sizeOf (classOf n) < 2 ^ 32 → n + 1 ≤ sizeOf (classOf n)
 class-holds n l = class-fits n (lt-of-not-le (λ (g : 2 ^ 32 ≤ n). omega (arith, ap sizeOf (class-beyond n g), top-size)))
 

@@ -19,7 +19,7 @@ use Rattle.pool.specs.Numbers.{handleAt, lengthAt}
 use Rattle.pool.specs.Blocks.{Freed, free, moved}
 use Rattle.pool.specs.Rules.{Outcome, lenOf, done, seated, cleared, grown}
 use Rattle.pool.specs.Steps.{ListAt, Ready}
-use Rattle.pool.specs.Facts.{handle-facts, list-at}
+use Rattle.pool.specs.Facts.{list-at}
 use Rattle.sound.specs.Sound.{over, listOf, lists, listAt, Holds}
 use Rattle.sound.specs.Sums.{over-in, over-part}
 use Rattle.sound.specs.Held.{span, spanOver, Held, held-sound, sound-held, held-write, run-ext, length-none, length-some}
@@ -100,26 +100,22 @@ module _ {st : ListPool} {ws hs : List ℕ} {ls : List (List ℕ)} (P : Holds st
   unfolding lists
   length-lists = ap length (sym (P .are)) ∙ length-map hs (listOf ws)
 
+  -- an element's word is the list's element
+  pub list-element : (slot i : ℕ) → i < lenOf ws hs slot → getD ws (handleAt hs slot + i) 0 ≡ getD (listAt ls slot) i 0
+  list-element slot i l =
+      sym (ap (λ (r : List ℕ). getD r i 0) (list-is slot) ∙ getD-take-drop ws (handleAt hs slot) (lenOf ws hs slot) i l)
+
   -- a part of the words of a list is a part of it
-  pub list-part : (slot p k : ℕ) → p + k ≤ lenOf ws hs slot → take k (drop (handleAt hs slot + p) ws) ≡ take k (drop p (listAt ls slot))
+  list-part : (slot p k : ℕ) → p + k ≤ lenOf ws hs slot → take k (drop (handleAt hs slot + p) ws) ≡ take k (drop p (listAt ls slot))
   list-part slot p k l =
       let h = handleAt hs slot in
-      let n = lenOf ws hs slot in
       let ends = list-here slot .ends in
       run-ext ws (listAt ls slot) (h + p) p k (omega arith) (omega (arith, length-list slot))
-      (λ j q.
-      ap (λ (i : ℕ). getD ws i 0) (omega arith)
-      ∙ sym (ap (λ (r : List ℕ). getD r (p + j) 0) (list-is slot) ∙ getD-take-drop ws h n (p + j) (omega arith)))
+      (λ j q. ap (λ (i : ℕ). getD ws i 0) (omega arith) ∙ list-element slot (p + j) (omega arith))
 
   -- at handle 0 it is empty
   pub list-empty : (slot : ℕ) → handleAt hs slot ≡ 0 → listAt ls slot ≡ []
   list-empty slot z = list-of slot ∙ ap (listOf ws) z ∙ list-none ws
-
-  -- a handle that is not 0 has elements
-  list-some : (slot : ℕ) → 0 < handleAt hs slot → 0 < lenOf ws hs slot
-  list-some slot p =
-      let f = handle-facts (st .used) ws (handleAt hs slot) (held .handles slot) p in
-      omega (arith, length-some ws (handleAt hs slot) p)
 
   -- the slot's block, if it has one, is held
   pub out : (slot : ℕ) → slot < length hs → Held st ws (set hs slot 0) (own (handleAt hs slot) (lenOf ws hs slot))
@@ -129,7 +125,7 @@ module _ {st : ListPool} {ws hs : List ℕ} {ls : List (List ℕ)} (P : Holds st
       go (inl z) =
           rw (eq-eqb (lenOf ws hs slot) 0 (ap (lengthAt ws) z ∙ length-none ws), ap (set hs slot) (sym z) ∙ set-getD hs slot 0) held
       go (inr p) =
-          rw (ne-eqb (lenOf ws hs slot) 0 (omega (arith, list-some slot p)), length-some ws (handleAt hs slot) p) (held-out slot held l p)
+          rw (ne-eqb (lenOf ws hs slot) 0 (omega (arith, list-here slot .live p)), length-some ws (handleAt hs slot) p) (held-out slot held l p)
 
 -- the lists are ls, but l in the slot
 pub record Has (st : ListPool) (ws hs : List ℕ) (ls : List (List ℕ)) (slot : ℕ) (l : List ℕ) : Type 0 where
@@ -159,8 +155,7 @@ module _ {st : ListPool} {ws hs : List ℕ} {ls : List (List ℕ)} {slot : ℕ} 
   has-part p k r = list-part (P .holds) slot p k (omega (arith, has-length)) ∙ ap (λ (r : List ℕ). take k (drop p r)) has-list
 
   pub has-at : (i : ℕ) → i < length l → getD ws (handleAt hs slot + i) 0 ≡ getD l i 0
-  has-at i r =
-      sym (ap (λ (r : List ℕ). getD r i 0) has-is ∙ getD-take-drop ws (handleAt hs slot) (lenOf ws hs slot) i (omega (arith, has-length)))
+  has-at i r = list-element (P .holds) slot i (omega (arith, has-length)) ∙ ap (λ (r : List ℕ). getD r i 0) has-list
 
   -- and of another slot's list, which is as in ls
   pub other-part : (other p k : ℕ) → (other ≡ slot → ⊥) → p + k ≤ length (listAt ls other) → take k (drop (handleAt hs other + p) ws) ≡ take k (drop p (listAt ls other))
@@ -268,7 +263,7 @@ module _ {st : ListPool} {ws hs : List ℕ} {ls : List (List ℕ)} {slot : ℕ} 
       go (inl z) = rw (eq-eqb h 0 z, sym (list-none ws) ∙ ap (listOf ws) (sym z) ∙ sym (list-of (P .holds) slot) ∙ has-list) P
       go (inr p) =
           let n = lenOf ws hs slot in
-          let some = list-some (P .holds) slot p in
+          let some = list-here (P .holds) slot .live p in
           let O : Held st ws (set hs slot 0) (span (h - 1) (sizeOf (classOf n)) ∷ []) = rw (ne-eqb n 0 (omega arith)) at (out (P .holds) slot has-here) in
           let G = free-gave (h - 1) (classOf n) O (class-below n (list-here (P .holds) slot .short)) in
           rw (ne-eqb h 0 (omega arith)) (record { inside = P .inside; holds = holds (G .held) (G .same ∙ has-out) })

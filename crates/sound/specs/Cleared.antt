@@ -63,7 +63,7 @@ clear-pool-holds st ws hs e =
       are = lists-none ws (length hs);
     }
 
-clear-pool-zero : (st : ListPool) (ws hs : List ℕ) → length ws ≤ poolLimit → length hs ≤ tableLimit → numberOf clearPool st ws hs ≡ 0
+pub clear-pool-zero : (st : ListPool) (ws hs : List ℕ) → length ws ≤ poolLimit → length hs ≤ tableLimit → numberOf clearPool st ws hs ≡ 0
 unfolding numberOf clearPoolNumber tooLong given
 clear-pool-zero st ws hs pool table = rw (le-ltb poolLimit (length ws) pool, le-ltb tableLimit (length hs) table)
 

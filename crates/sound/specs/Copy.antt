@@ -16,13 +16,13 @@ use Rattle.pool.specs.declared.ListPool.{ListPool}
 use Rattle.pool.specs.Numbers.{handleAt}
 use Rattle.pool.specs.Blocks.{moved}
 use Rattle.pool.specs.Rules.{lenOf, done, seated, deepClone, copyFrom, numberOf, doneOf, grown, opened, deepCloneNumber, copyFromNumber, deepCloneDone, copyFromDone}
-use Rattle.pool.specs.Facts.{given-zero, neither, else-first, else-second, entry-facts₂, ready}
+use Rattle.pool.specs.Facts.{given-zero, neither, else-first, else-second, entry-facts₂, ready, ready-empty}
 use Rattle.sound.specs.Sound.{listAt, Holds, Leaves}
 use Rattle.sound.specs.Changes.{Has, Left, has, other-part, length-list, list-here, list-empty, written, grew}
 use Rattle.sound.specs.Sequences.{insertAll, openAt, range}
 use Rattle.sound.specs.SequenceLaws.{length-insert, sets-end, sets-insert}
 use Rattle.sound.specs.Meant.{behind}
-use Rattle.sound.specs.Grow.{opens, new-ready}
+use Rattle.sound.specs.Grow.{opens}
 
 -- no other handle changes where a list grows
 grown-other : (st : ListPool) (ws hs : List ℕ) (slot count other : ℕ) → (other ≡ slot → ⊥) → handleAt (grown st ws hs slot count .handles) other ≡ handleAt hs other
@@ -53,7 +53,7 @@ module _ {st : ListPool} {ws hs : List ℕ} {ls : List (List ℕ)} (P : Holds st
   deep-clone-holds slot to e =
       let f = entry-facts₂ (st .used) ws hs slot to (else-first _ _ e) .1 in
       let z : handleAt hs to ≡ 0 = eqb-true _ _ (not-false _ (given-zero 5 _ (omega arith) (else-first _ _ (else-second _ _ e)))) in
-      let (none, r) = new-ready P to (lenOf ws hs slot) f z (else-second _ _ (else-second _ _ e)) in
+      let r = ready-empty st ws hs to (lenOf ws hs slot) f z (else-second _ _ (else-second _ _ e)) in
       let L : Has st ws hs ls to [] = rw (list-empty P to z) at (has to P (f .inside)) in
       let (zs, k, G) = grew L (lenOf ws hs slot) r in
       let l = listAt ls slot in

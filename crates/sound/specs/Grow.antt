@@ -2,19 +2,19 @@
 use mathlib.Core.Path.{_≡_, sym, ap, _∙_}
 use mathlib.Core.List.{List, [], _∷_, _++_}
 use Prim.Native.Nat.{ℕ, _+_, _-_, _≤_}
-use native.Mathlib.Nat.{add-assoc, add-zero, zero-add}
+use native.Mathlib.Nat.{add-assoc, add-zero}
 use native.Mathlib.Omega.{arith}
-use borrow.Author.Tests.{eqb-true, ltb-false, ne-eqb, not-false}
+use borrow.Author.Tests.{eqb-true, ne-eqb, not-false}
 use lib.ListN.{length, set, take, drop, length-append}
 use lib.Seq.{set-comm, getD-set-same, drop-append-seam, take-length}
 use Rattle.words.specs.Runs.{copied, stored}
 use Rattle.words.specs.RunLaws.{length-take-drop}
 use Rattle.pool.specs.declared.ListPool.{ListPool}
-use Rattle.pool.specs.Numbers.{handleAt, needNumber}
+use Rattle.pool.specs.Numbers.{handleAt}
 use Rattle.pool.specs.Blocks.{moved}
-use Rattle.pool.specs.Rules.{lenOf, fromSlice, push, extend, insert, growAt, numberOf, doneOf, grown, opened, growNumber, growAtNumber, fromSliceNumber, pushDone, extendDone, fromSliceDone, insertDone, growAtDone}
+use Rattle.pool.specs.Rules.{lenOf, fromSlice, push, extend, insert, growAt, numberOf, doneOf, grown, opened, fromSliceNumber, pushDone, extendDone, fromSliceDone, insertDone, growAtDone}
 use Rattle.pool.specs.Steps.{Ready}
-use Rattle.pool.specs.Facts.{Entered, given-zero, else-first, else-second, entry-facts, ready}
+use Rattle.pool.specs.Facts.{given-zero, else-first, else-second, entry-facts, grow-facts, grow-at-facts, ready-empty}
 use Rattle.sound.specs.Sound.{listAt, Holds, Leaves}
 use Rattle.sound.specs.Changes.{Has, Left, has, has-length, has-part, length-list, list-empty, written, grew}
 use Rattle.sound.specs.Sequences.{insertAll, openAt}
@@ -78,29 +78,17 @@ module _ {st : ListPool} {ws hs : List ℕ} {ls : List (List ℕ)} {slot : ℕ} 
       rw (sets-insert l ys (x ∷ []) p h n, has-length L) at W
 
 module _ {st : ListPool} {ws hs : List ℕ} {ls : List (List ℕ)} (P : Holds st ws hs ls) where
-  grow-ready : (slot count : ℕ) → growNumber st ws hs slot count ≡ 0 → Ready st ws hs slot (lenOf ws hs slot + count)
-  unfolding growNumber
-  grow-ready slot count e =
-      ready st ws hs slot (lenOf ws hs slot + count) (entry-facts (st .used) ws hs slot (else-first _ _ e)) (else-second _ _ e)
-
   -- "append"
   pub push-holds : (slot x : ℕ) → numberOf (push slot x) st ws hs ≡ 0
       → Leaves (doneOf (push slot x) st ws hs) (set ls slot (listAt ls slot ++ x ∷ []))
   unfolding numberOf doneOf
-  push-holds slot x e = let r = grow-ready slot 1 e in pushed (has slot P (r .inside)) x r .holds
+  push-holds slot x e = let r = grow-facts st ws hs slot 1 e in pushed (has slot P (r .inside)) x r .holds
 
   -- "concatenate"
   pub extend-holds : (slot : ℕ) (xs : List ℕ) → numberOf (extend slot xs) st ws hs ≡ 0
       → Leaves (doneOf (extend slot xs) st ws hs) (set ls slot (listAt ls slot ++ xs))
   unfolding numberOf doneOf
-  extend-holds slot xs e = let r = grow-ready slot (length xs) e in extended (has slot P (r .inside)) xs r .holds
-
-  -- an empty list can get as many elements as there is a block for
-  pub new-ready : (slot count : ℕ) → Entered (st .used) ws hs slot → handleAt hs slot ≡ 0 → needNumber st ws 0 count ≡ 0
-      → (lenOf ws hs slot ≡ 0) × Ready st ws hs slot (lenOf ws hs slot + count)
-  new-ready slot count f z e =
-      let none = f .list .none z in
-      (none, ready st ws hs slot (lenOf ws hs slot + count) f (rw (none, zero-add count) e))
+  extend-holds slot xs e = let r = grow-facts st ws hs slot (length xs) e in extended (has slot P (r .inside)) xs r .holds
 
   -- `from_slice`: an empty list becomes the slice
   pub from-slice-holds : (slot : ℕ) (xs : List ℕ) → numberOf (fromSlice slot xs) st ws hs ≡ 0
@@ -109,28 +97,21 @@ module _ {st : ListPool} {ws hs : List ℕ} {ls : List (List ℕ)} (P : Holds st
   from-slice-holds slot xs e =
       let f = entry-facts (st .used) ws hs slot (else-first _ _ e) in
       let z = eqb-true (handleAt hs slot) 0 (not-false _ (given-zero 5 _ (omega arith) (else-first _ _ (else-second _ _ e)))) in
-      let (none, r) = new-ready slot (length xs) f z (else-second _ _ (else-second _ _ e)) in
-      rw (none, add-zero, list-empty P slot z) at (extended (has slot P (f .inside)) xs r .holds)
-
-  grow-at-ready : (slot p count : ℕ) → growAtNumber st ws hs slot p count ≡ 0 → (Ready st ws hs slot (lenOf ws hs slot + count)) × (p ≤ length (listAt ls slot))
-  unfolding growAtNumber
-  grow-at-ready slot p count e =
-      let f = entry-facts (st .used) ws hs slot (else-first _ _ e) in
-      let place : p ≤ lenOf ws hs slot = ltb-false _ _ (given-zero 4 _ (omega arith) (else-first _ _ (else-second _ _ e))) in
-      (ready st ws hs slot (lenOf ws hs slot + count) f (else-second _ _ (else-second _ _ e)), omega (arith, length-list P slot))
+      let r = ready-empty st ws hs slot (length xs) f z (else-second _ _ (else-second _ _ e)) in
+      rw (f .list .none z, add-zero, list-empty P slot z) at (extended (has slot P (f .inside)) xs r .holds)
 
   -- "insert at"
   pub insert-holds : (slot p x : ℕ) → numberOf (insert slot p x) st ws hs ≡ 0
       → Leaves (doneOf (insert slot p x) st ws hs) (set ls slot (insertAll p (x ∷ []) (listAt ls slot)))
   unfolding numberOf doneOf
   insert-holds slot p x e =
-      let (r, place) = grow-at-ready slot p 1 e in
-      inserted (has slot P (r .inside)) p x place r .holds
+      let (place, r) = grow-at-facts st ws hs slot p 1 e in
+      inserted (has slot P (r .inside)) p x (omega (arith, length-list P slot)) r .holds
 
   -- "the places `grow_at` opens hold what 01 says"
   pub grow-at-holds : (slot p count : ℕ) → numberOf (growAt slot p count) st ws hs ≡ 0
       → Leaves (doneOf (growAt slot p count) st ws hs) (set ls slot (openAt p (behind st ws hs slot count) (listAt ls slot)))
   unfolding numberOf doneOf growAtDone
   grow-at-holds slot p count e =
-      let (r, place) = grow-at-ready slot p count e in
-      opens (has slot P (r .inside)) p count place r .1 .holds
+      let (place, r) = grow-at-facts st ws hs slot p count e in
+      opens (has slot P (r .inside)) p count (omega (arith, length-list P slot)) r .1 .holds

@@ -101,6 +101,14 @@ pub live-some : (ws : List ℕ) (i h : ℕ) → 0 < h → liveOver ws i h ≡ ov
 unfolding liveOver
 live-some ws i h p = rw (ne-eqb h 0 (omega arith))
 
+-- a handle that is not 0 stands in a slot of the table
+pub handle-inside : (hs : List ℕ) (slot : ℕ) → 0 < handleAt hs slot → slot < length hs
+handle-inside hs slot p = go (decLt slot (length hs))
+  where
+    go : Dec (slot < length hs) → slot < length hs
+    go (yes l) = l
+    go (no q) = absurd (omega (arith, List·getD-eq-default hs 0 {n = slot} (omega arith)))
+
 pub length-none : (ws : List ℕ) → lengthAt ws 0 ≡ 0
 unfolding lengthAt
 length-none ws = refl
@@ -183,7 +191,7 @@ map-ext f g [] h = refl
 map-ext f g (x ∷ xs) h = cc (h 0 (omega arith), map-ext f g xs (λ k p. h (suc k) (omega arith)))
 
 module _ {st : ListPool} {ws hs : List ℕ} {xs : List Span} (H : Held st ws hs xs) where
-  -- a word that blocks n of the table or the chains are over is used, and in no held block
+  -- a word that one or more blocks of the table or the chains are over is used, and in no held block
   own : (i n : ℕ) → 1 ≤ n → n ≤ sum (λ slot h. liveOver ws i h) hs + sum (freeOver i) (H .frees) → (i < st .used) × (spanOver i xs ≡ 0)
   own i n p l =
       let u = over-le 0 (st .used) i in

@@ -1,5 +1,5 @@
 -- What it means that a pool is sound: every used word lies in exactly one block, blocks are never shared, and their sizes add up to the used words.
--- Only the definitions of Sound.antt are used, and laws of sums.
+-- The statements use the definitions of Sound.antt and of paper 01's rules alone.
 use mathlib.Core.Path.{_≡_, refl, sym, ap, _∙_}
 use mathlib.Core.List.{List, [], _∷_, map}
 use mathlib.Core.Logic.{_≢_, _⊎_, inl, inr}

@@ -14,19 +14,19 @@ use Rattle.pool.specs.declared.ListPool.{ListPool}
 use Rattle.pool.specs.declared.Part.{Part}
 use Rattle.pool.specs.Numbers.{handleAt, entryNumber}
 use Rattle.pool.specs.Rules.{lenOf, part, setAt, take, numberOf, doneOf, takeNumber, setDone, takeDone}
-use Rattle.pool.specs.Facts.{given-zero, neither, else-first, else-second, entry-facts, entry-facts₂, handle-facts}
+use Rattle.pool.specs.Facts.{at-facts, given-zero, neither, else-first, else-second, entry-facts, entry-facts₂, handle-facts}
 use Rattle.sound.specs.Sound.{listOf, listAt, Holds, Leaves}
 use Rattle.sound.specs.Held.{Held}
 use Rattle.sound.specs.Moves.{held-out, held-in}
 use Rattle.sound.specs.Changes.{lists-set, lists-clear, holds, held, list-of, length-list, has, written}
-use Rattle.sound.specs.Shrink.{at-facts}
 
 module _ {st : ListPool} {ws hs : List ℕ} {ls : List (List ℕ)} (P : Holds st ws hs ls) where
   -- "set one"
   pub set-holds : (slot p x : ℕ) → numberOf (setAt slot p x) st ws hs ≡ 0 → Leaves (doneOf (setAt slot p x) st ws hs) (set ls slot (set (listAt ls slot) p x))
   unfolding numberOf doneOf setDone
   set-holds slot p x e =
-      let (f, before) = at-facts P slot p e in
+      let (f, place) = at-facts (st .used) ws hs slot p e in
+      let before = place .before in
       written (has slot P (f .inside)) p (x ∷ []) (omega (arith, length-list P slot)) .holds
 
   -- "writing to an element through `as_mut_slice` too": to write a word of the part that it gives is to set one element of the list

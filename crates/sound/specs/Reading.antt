@@ -1,6 +1,6 @@
 -- What the calls that read answer on a sound pool within the limits: what the plain sequence in the slot says. They change nothing.
 -- And the one value that a call that changes a list gives.
-use mathlib.Core.Path.{_≡_, sym, ap, _∙_}
+use mathlib.Core.Path.{_≡_, sym, ap}
 use mathlib.Core.Bool.{cond}
 use mathlib.Core.List.{List, []}
 use Prim.Native.Nat.{ℕ, _+_, _-_, _≤_, _<_}
@@ -9,12 +9,11 @@ use native.Mathlib.Decide.{decLt}
 use borrow.Author.Tests.{le-leb, lt-leb}
 use lib.ListN.{length, getD, take, drop, List·getD-eq-default}
 use lib.Dec.{eqb}
-use Rattle.words.specs.RunLaws.{getD-take-drop}
 use Rattle.pool.specs.declared.ListPool.{ListPool}
 use Rattle.pool.specs.Numbers.{_orElse_, handleAt, lengthAt, given, entryNumber}
 use Rattle.pool.specs.Rules.{isEmpty, len, isValid, get, first, push, lenOf, done, refused, numberOf, doneOf, unless, called, atNumber, isEmptyDone, lenDone, isValidDone, getDone, pushDone, part}
 use Rattle.sound.specs.Sound.{listAt, Holds}
-use Rattle.sound.specs.Changes.{list-is, length-list, length-lists}
+use Rattle.sound.specs.Changes.{list-is, list-element, length-list, length-lists}
 use Rattle.sound.specs.Refusals.{entry-is, empty-is}
 
 module _ {st : ListPool} {ws hs : List ℕ} {ls : List (List ℕ)} (P : Holds st ws hs ls) where
@@ -25,12 +24,6 @@ module _ {st : ListPool} {ws hs : List ℕ} {ls : List (List ℕ)} (P : Holds st
   unnamed : {slot : ℕ} → length hs ≤ slot → entryNumber (st .used) ws hs slot ≡ 2
   unfolding given
   unnamed {slot} h = rw (entry-is P slot, length-lists P, le-leb (length hs) slot h)
-
-  element : (slot position : ℕ) → position < length (listAt ls slot) → getD ws (handleAt hs slot + position) 0 ≡ getD (listAt ls slot) position 0
-  element slot position h =
-      sym
-      (ap (λ (l : List ℕ). getD l position 0) (list-is P slot)
-      ∙ getD-take-drop ws (handleAt hs slot) (lenOf ws hs slot) position (omega (arith, length-list P slot)))
 
   -- `len` gives the length of the list.
   pub len-reads : (slot : ℕ) → slot < length hs → called (len slot) st ws hs ≡ done (length (listAt ls slot)) st ws hs
@@ -52,7 +45,8 @@ module _ {st : ListPool} {ws hs : List ℕ} {ls : List (List ℕ)} (P : Holds st
       → called (get slot position) st ws hs ≡ done (getD (listAt ls slot) position 0) st ws hs
   unfolding called unless numberOf doneOf atNumber getDone given _orElse_
   get-reads slot position l h =
-      rw (named l, lt-leb (lenOf ws hs slot) position (omega (arith, length-list P slot)), element slot position h)
+      let n = length-list P slot in
+      rw (named l, lt-leb (lenOf ws hs slot) position (omega arith), list-element P slot position (omega arith))
 
   -- and is refused with 4 at any other.
   pub get-beyond : (slot position : ℕ) → slot < length hs → length (listAt ls slot) ≤ position → called (get slot position) st ws hs ≡ refused st ws hs 4

@@ -4,21 +4,22 @@ use mathlib.Core.Path.{_≡_, refl, sym, ap, _∙_}
 use mathlib.Core.Bool.{Bool, true, false, cond, not, _&&_, _||_, and-false}
 use mathlib.Core.List.{List}
 use mathlib.Core.Logic.{_⊎_, inl, inr}
-use Prim.Native.Nat.{ℕ, _+_, _-_, _%_, _<_, min}
+use Prim.Native.Nat.{ℕ, _+_, _-_, _<_, min}
 use native.Mathlib.Nat.{eq-zero-or-pos}
 use native.Mathlib.Omega.{arith}
-use native.Mathlib.Decide.{decLt, ℕ-discrete}
-use borrow.Author.Tests.{eqb-true, eq-eqb, ne-eqb, le-ltb}
-use lib.ListN.{length, List·getD-eq-default}
+use native.Mathlib.Decide.{ℕ-discrete}
+use borrow.Author.Tests.{eqb-true, eq-eqb, ne-eqb}
+use lib.ListN.{length}
 use lib.Dec.{eqb, leb, ltb}
 use Rattle.pool.specs.declared.ListPool.{ListPool}
-use Rattle.pool.specs.Numbers.{_orElse_, poolLimit, tableLimit, handleAt, given, tooLong, overLimit, entryNumber, entryNumber₂, needsBlock, needNumber}
-use Rattle.pool.specs.Rules.{Call, fromSlice, isEmpty, len, isValid, get, first, setAt, deepClone, clear, take, push, extend, copyFrom, insert, remove, swapRemove, truncate, growAt, clearPool, lenOf, numberOf, atNumber, takeNumber, growNumber, fromSliceNumber, deepCloneNumber, growAtNumber, copyFromNumber, removeNumber, truncateNumber, clearPoolNumber}
-use Rattle.pool.specs.Facts.{Within, handle-facts}
+use Rattle.pool.specs.Numbers.{_orElse_, handleAt, given, entryNumber, entryNumber₂, needsBlock, needNumber}
+use Rattle.pool.specs.Rules.{Call, fromSlice, isEmpty, len, isValid, get, first, setAt, deepClone, clear, take, push, extend, copyFrom, insert, remove, swapRemove, truncate, growAt, clearPool, lenOf, numberOf, atNumber, takeNumber, growNumber, fromSliceNumber, deepCloneNumber, growAtNumber, copyFromNumber, removeNumber, truncateNumber}
+use Rattle.pool.specs.Facts.{within-limits}
 use Rattle.sound.specs.Sound.{listAt, Holds}
-use Rattle.sound.specs.Held.{length-some}
+use Rattle.sound.specs.Held.{handle-inside}
 use Rattle.sound.specs.Meaning.{not-shared}
 use Rattle.sound.specs.Changes.{list-here, length-list, length-lists}
+use Rattle.sound.specs.Cleared.{clear-pool-zero}
 
 -- a slot that is not in the table
 abbrev pub outside : List (List ℕ) → ℕ → Bool
@@ -85,15 +86,6 @@ lengths (truncate slot n) ls = length (listAt ls slot) to min (length (listAt ls
 lengths (growAt slot position count) ls = length (listAt ls slot) to length (listAt ls slot) + count
 lengths clearPool ls = 0 to 0
 
--- within the limits 1 is not given
-within-short : {used pool table : ℕ} → Within used pool table → tooLong pool table ≡ false
-unfolding tooLong
-within-short {pool = pool} {table = table} W = rw (le-ltb poolLimit pool (W .pool-limit), le-ltb tableLimit table (W .table-limit))
-
-within-limits : {used pool table : ℕ} → Within used pool table → overLimit used pool table ≡ false
-unfolding overLimit
-within-limits {used} {pool} W = rw (within-short W, le-ltb pool used (W .below), eq-eqb (used % 4) 0 (W .fours))
-
 -- the first number that is not 0: with none behind it, and of three
 else-none : (a : ℕ) → (a orElse 0) ≡ a
 unfolding _orElse_
@@ -124,24 +116,12 @@ module _ {st : ListPool} {ws hs : List ℕ} {ls : List (List ℕ)} (P : Holds st
       (else-none (given 2 (leb (length hs) slot || leb (length hs) other)))
 
   -- a handle is 0 just where the list has no elements
-  some-length : (slot : ℕ) → 0 < handleAt hs slot → 0 < lenOf ws hs slot
-  some-length slot p =
-      let f = handle-facts (st .used) ws (handleAt hs slot) (P .sound .1 .handles slot) p in
-      omega (arith, length-some ws (handleAt hs slot) p)
-
   pub empty-is : (slot : ℕ) → eqb (handleAt hs slot) 0 ≡ empty ls slot
   empty-is slot = rw (length-list P slot) (go (eq-zero-or-pos (handleAt hs slot)))
     where
       go : (handleAt hs slot ≡ 0) ⊎ (0 < handleAt hs slot) → eqb (handleAt hs slot) 0 ≡ eqb (lenOf ws hs slot) 0
       go (inl z) = rw (eq-eqb (handleAt hs slot) 0 z, eq-eqb (lenOf ws hs slot) 0 (list-here P slot .none z))
-      go (inr p) = rw (ne-eqb (handleAt hs slot) 0 (omega arith), ne-eqb (lenOf ws hs slot) 0 (omega (arith, some-length slot p)))
-
-  inside : (slot : ℕ) → 0 < handleAt hs slot → slot < length hs
-  inside slot p = go (decLt slot (length hs))
-    where
-      go : Dec (slot < length hs) → slot < length hs
-      go (yes l) = l
-      go (no q) = absurd (omega (arith, List·getD-eq-default hs 0 {n = slot} (omega arith)))
+      go (inr p) = rw (ne-eqb (handleAt hs slot) 0 (omega arith), ne-eqb (lenOf ws hs slot) 0 (omega (arith, list-here P slot .live p)))
 
   -- and two handles are equal just where they are one slot's, or both 0
   clash-is : (slot other : ℕ) → eqb (handleAt hs slot) (handleAt hs other) ≡ (eqb slot other || (empty ls slot && empty ls other))
@@ -159,11 +139,7 @@ module _ {st : ListPool} {ws hs : List ℕ} {ls : List (List ℕ)} (P : Holds st
       go (no ne) (inl z) (inr q) = rw (ne-eqb slot other ne, ne-eqb h k (omega arith), ne-eqb k 0 (omega arith)) (sym (and-false (eqb h 0)))
       go (no ne) (inr p) (inl y) = rw (ne-eqb slot other ne, ne-eqb h k (omega arith), ne-eqb h 0 (omega arith))
       go (no ne) (inr p) (inr q) =
-          rw (ne-eqb slot other ne, ne-eqb h k (not-shared (P .sound) slot other ne (inside slot p) (inside other q) (omega arith)), ne-eqb h 0 (omega arith))
-
-  within-clear : clearPoolNumber st ws hs ≡ 0
-  unfolding clearPoolNumber given
-  within-clear = rw (within-short (P .within))
+          rw (ne-eqb slot other ne, ne-eqb h k (not-shared (P .sound) slot other ne (handle-inside hs slot p) (handle-inside hs other q) (omega arith)), ne-eqb h 0 (omega arith))
 
   -- The number of a call is that which its arguments have on the plain lists, or else that of the block for the length that it gives a list.
   pub number-is : (call : Call) → numberOf call st ws hs ≡ (refusal call ls orElse needNumber st ws (lengths call ls .old) (lengths call ls .new))
@@ -187,4 +163,4 @@ module _ {st : ListPool} {ws hs : List ℕ} {ls : List (List ℕ)} (P : Holds st
   number-is (swapRemove slot position) = rw (entry-is slot, length-list P slot)
   number-is (truncate slot n) = rw (entry-is slot, length-list P slot)
   number-is (growAt slot position count) = rw (entry-is slot, length-list P slot, else-assoc)
-  number-is clearPool = within-clear ∙ sym (else-none 0)
+  number-is clearPool = clear-pool-zero st ws hs (P .within .pool-limit) (P .within .table-limit) ∙ sym (else-none 0)

@@ -1,50 +1,42 @@
 -- The calls that make a list shorter: each leaves a sound pool, and changes the lists of the table as one equation says.
-use mathlib.Core.Path.{_≡_, refl, sym, _∙_}
-use mathlib.Core.Bool.{Bool, true, false, cond}
+use mathlib.Core.Path.{_≡_, sym, _∙_}
+use mathlib.Core.Logic.{⊎-elim}
 use mathlib.Core.List.{List, [], _∷_}
-use Prim.Native.Nat.{ℕ, _+_, _-_, _<_, min}
-use native.Mathlib.Nat.{add-assoc}
+use Prim.Native.Nat.{ℕ, _+_, _-_, _≤_, _<_, min}
+use native.Mathlib.Nat.{add-assoc, eq-zero-or-pos}
 use native.Mathlib.Omega.{arith}
-use borrow.Author.Tests.{eqb-true, eqb-false, leb-true, leb-false}
+use native.Mathlib.Decide.{decLt}
+use borrow.Author.Tests.{ne-eqb}
 use lib.ListN.{length, getD, set, take, drop, length-set}
 use lib.Seq.{length-sets, take-all, take-set-le}
-use lib.Dec.{eqb, leb}
 use Rattle.words.specs.Runs.{copied}
 use Rattle.words.specs.RunLaws.{length-take-drop}
 use Rattle.pool.specs.declared.ListPool.{ListPool}
 use Rattle.pool.specs.Numbers.{handleAt}
-use Rattle.pool.specs.Blocks.{moved}
-use Rattle.pool.specs.Rules.{lenOf, done, seated, cleared, lastRemoved, clear, remove, swapRemove, truncate, numberOf, doneOf, atNumber, clearDone, removeNumber, removeDone, swapRemoveDone, truncateNumber, truncateDone}
-use Rattle.pool.specs.Steps.{Ready}
-use Rattle.pool.specs.Facts.{Entered, given-zero, else-first, else-second, entry-facts, ready}
+use Rattle.pool.specs.Rules.{lenOf, lastRemoved, clear, remove, swapRemove, truncate, numberOf, doneOf, clearDone, removeDone, swapRemoveDone, truncateDone}
+use Rattle.pool.specs.Steps.{Ready, resized}
+use Rattle.pool.specs.Facts.{entry-facts, remove-facts, truncate-facts}
+use Rattle.pool.specs.CallLaws.{last-resized, truncate-resized, truncate-none}
 use Rattle.sound.specs.Sound.{listAt, Holds, Leaves}
 use Rattle.sound.specs.Changes.{Has, Left, has, has-length, has-at, has-part, written, shrunk, emptied}
 use Rattle.sound.specs.Sequences.{removeAt, swapRemoveAt}
 use Rattle.sound.specs.SequenceLaws.{take-shift}
 
+-- a list gets no more elements than it has: the first of them are left
+fewer : {st : ListPool} {ws hs : List ℕ} {ls : List (List ℕ)} {slot : ℕ} {l : List ℕ} → Has st ws hs ls slot l → (b : ℕ) → Ready st ws hs slot b → b ≤ length l
+    → Left (resized st ws hs slot (handleAt hs slot) (lenOf ws hs slot) b) ls slot (take b l)
+unfolding resized
+fewer L b r h = ⊎-elim (λ z. rw z (emptied L)) (λ p. rw (ne-eqb b 0 (omega arith)) (shrunk L b r p h)) (eq-zero-or-pos b)
+
 -- the last element goes from a list whose elements may have been written since the entry, where the words were ws
-module _ {st : ListPool} {vs hs : List ℕ} {ls : List (List ℕ)} {slot : ℕ} {l : List ℕ} (L : Has st vs hs ls slot l) (ws : List ℕ) where
-  dropped : length vs ≡ length ws → length l ≡ lenOf ws hs slot → 0 < length l → Ready st ws hs slot (lenOf ws hs slot - 1)
-      → Left (lastRemoved st vs hs slot (handleAt hs slot) (lenOf ws hs slot)) ls slot (take (length l - 1) l)
-  unfolding lastRemoved
-  dropped long k p r = rw (← same) (go (eqb (lenOf vs hs slot) 1) refl)
-    where
-      n : ℕ
-      n = lenOf vs hs slot
-
-      same : n ≡ lenOf ws hs slot
-      same = sym (has-length L) ∙ k
-
-      go : (t : Bool) → eqb n 1 ≡ t
-          → Left (cond t (cleared st vs hs slot (handleAt hs slot) n) (seated 0 (moved st vs (handleAt hs slot) n (n - 1)) hs slot (n - 1))) ls slot (take (length l - 1) l)
-      go true e =
-          let none : length l - 1 ≡ 0 = omega (arith, has-length L, eqb-true n 1 e) in
-          rw none (emptied L)
-      go false e =
-          let more : (n ≡ 1) → ⊥ = eqb-false n 1 e in
-          let d = has-length L in
-          let again : Ready st vs hs slot (n - 1) = record { inside = r .inside; can = rw (long, same) (r .can) } in
-          rw (has-length L) (shrunk L (n - 1) again (omega arith) (omega arith))
+dropped : {st : ListPool} {vs hs : List ℕ} {ls : List (List ℕ)} {slot : ℕ} {l : List ℕ} → Has st vs hs ls slot l → (ws : List ℕ)
+    → length vs ≡ length ws → length l ≡ lenOf ws hs slot → 0 < length l → Ready st ws hs slot (lenOf ws hs slot - 1)
+    → Left (lastRemoved st vs hs slot (handleAt hs slot) (lenOf ws hs slot)) ls slot (take (length l - 1) l)
+dropped {st} {vs} {hs} {slot = slot} L ws long k p r =
+    let d = has-length L in
+    let same : lenOf vs hs slot ≡ lenOf ws hs slot = sym d ∙ k in
+    let again : Ready st vs hs slot (lenOf vs hs slot - 1) = record { inside = r .inside; can = rw (long, same) (r .can) } in
+    rw (← same, last-resized st vs hs slot (handleAt hs slot) (lenOf vs hs slot) (omega arith), d) (fewer L (lenOf vs hs slot - 1) again (omega arith))
 
 module _ {st : ListPool} {ws hs : List ℕ} {ls : List (List ℕ)} (P : Holds st ws hs ls) where
   -- "empty"
@@ -52,23 +44,13 @@ module _ {st : ListPool} {ws hs : List ℕ} {ls : List (List ℕ)} (P : Holds st
   unfolding numberOf doneOf clearDone
   clear-holds slot e = emptied (has slot P (entry-facts (st .used) ws hs slot e .inside)) .holds
 
-  -- a position in the list
-  pub at-facts : (slot p : ℕ) → atNumber (st .used) ws hs slot p ≡ 0 → (Entered (st .used) ws hs slot) × (p < lenOf ws hs slot)
-  unfolding atNumber
-  at-facts slot p e = (entry-facts (st .used) ws hs slot (else-first _ _ e), leb-false _ _ (given-zero 4 _ (omega arith) (else-second _ _ e)))
-
-  remove-ready : (slot p : ℕ) → removeNumber st ws hs slot p ≡ 0 → (Ready st ws hs slot (lenOf ws hs slot - 1)) × (p < lenOf ws hs slot)
-  unfolding removeNumber
-  remove-ready slot p e =
-      let f = at-facts slot p (else-first _ _ e) in
-      (ready st ws hs slot (lenOf ws hs slot - 1) (f .0) (else-second _ _ e), f .1)
-
   -- "remove at"
   pub remove-holds : (slot p : ℕ) → numberOf (remove slot p) st ws hs ≡ 0
       → Leaves (doneOf (remove slot p) st ws hs) (set ls slot (removeAt p (listAt ls slot)))
   unfolding numberOf doneOf removeDone copied
   remove-holds slot p e =
-      let (r, before) = remove-ready slot p e in
+      let (place, r) = remove-facts st ws hs slot p e in
+      let before = place .before in
       let L = has slot P (r .inside) in
       let l = listAt ls slot in
       let n = has-length L in
@@ -85,7 +67,8 @@ module _ {st : ListPool} {ws hs : List ℕ} {ls : List (List ℕ)} (P : Holds st
       → Leaves (doneOf (swapRemove slot p) st ws hs) (set ls slot (swapRemoveAt p (listAt ls slot)))
   unfolding numberOf doneOf swapRemoveDone swapRemoveAt
   swap-remove-holds slot p e =
-      let (r, before) = remove-ready slot p e in
+      let (place, r) = remove-facts st ws hs slot p e in
+      let before = place .before in
       let L = has slot P (r .inside) in
       let l = listAt ls slot in
       let h = handleAt hs slot in
@@ -101,21 +84,18 @@ module _ {st : ListPool} {ws hs : List ℕ} {ls : List (List ℕ)} (P : Holds st
   -- "take the first n"
   pub truncate-holds : (slot n : ℕ) → numberOf (truncate slot n) st ws hs ≡ 0
       → Leaves (doneOf (truncate slot n) st ws hs) (set ls slot (take n (listAt ls slot)))
-  unfolding numberOf doneOf truncateNumber truncateDone clearDone
-  truncate-holds slot n e = go (eqb n 0) refl (leb (lenOf ws hs slot) n) refl .holds
+  unfolding numberOf doneOf
+  truncate-holds slot n e = go (decLt n (lenOf ws hs slot)) .holds
     where
-      f : Entered (st .used) ws hs slot
-      f = entry-facts (st .used) ws hs slot (else-first _ _ e)
+      r : Ready st ws hs slot (min (lenOf ws hs slot) n)
+      r = truncate-facts st ws hs slot n e
 
       L : Has st ws hs ls slot (listAt ls slot)
-      L = has slot P (f .inside)
+      L = has slot P (r .inside)
 
-      go : (t : Bool) → eqb n 0 ≡ t → (u : Bool) → leb (lenOf ws hs slot) n ≡ u
-          → Left (cond t (cleared st ws hs slot (handleAt hs slot) (lenOf ws hs slot)) (cond u (done 0 st ws hs) (seated 0 (moved st ws (handleAt hs slot) (lenOf ws hs slot) n) hs slot n))) ls slot (take n (listAt ls slot))
-      go true z u q = rw (eqb-true n 0 z) (emptied L)
-      go false z true q = rw (take-all n (listAt ls slot) (omega (arith, has-length L, leb-true (lenOf ws hs slot) n q))) L
-      go false z false q =
-          let some : (n ≡ 0) → ⊥ = eqb-false n 0 z in
-          let less : n < lenOf ws hs slot = leb-false _ _ q in
+      go : Dec (n < lenOf ws hs slot) → Left (truncateDone st ws hs slot n) ls slot (take n (listAt ls slot))
+      go (yes less) =
           let m : min (lenOf ws hs slot) n ≡ n = omega arith in
-          shrunk L n (ready st ws hs slot n f (rw m at (else-second _ _ e))) (omega arith) (omega (arith, has-length L))
+          rw (truncate-resized st ws hs slot n less) (fewer L n (rw m at r) (omega (arith, has-length L)))
+      go (no most) =
+          rw (truncate-none (length ws) st ws hs slot n (r .can .list) (omega arith), take-all n (listAt ls slot) (omega (arith, has-length L))) L

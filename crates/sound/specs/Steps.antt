@@ -41,7 +41,7 @@ unfolding copied
 getD-copied-above ws from to n i h l = getD-sets-above ws to (take n (drop from ws)) i (rw length-take-drop l)
 
 -- a run of stores inside the first block that is held
-pub held-sets : {st : ListPool} {ws hs : List ℕ} {xs : List Span} (b s at : ℕ) (vs : List ℕ) → Held st ws hs (span b s ∷ xs) → b ≤ at → at + length vs ≤ b + s
+held-sets : {st : ListPool} {ws hs : List ℕ} {xs : List Span} (b s at : ℕ) (vs : List ℕ) → Held st ws hs (span b s ∷ xs) → b ≤ at → at + length vs ≤ b + s
     → Held st (sets ws at vs) hs (span b s ∷ xs) × (lists (sets ws at vs) hs ≡ lists ws hs)
 unfolding spanOver
 held-sets {ws = ws} b s at vs H p q =
@@ -69,7 +69,7 @@ module _ {st : ListPool} {ws hs : List ℕ} where
   held-copied {s = s} from b n H l r =
       held-sets b s b (take n (drop from ws)) H (omega arith) (omega (arith, length-take-drop ws from n r))
 
-  -- the used words stay as they were as they were
+  -- the used words stay as they were
   pub alloc-took : {xs : List Span} (c : ℕ) → Held st ws hs xs → CanAlloc st (length ws) c
       → Took ws hs (alloc st ws c) c xs × ((i : ℕ) → i < st .used → getD (alloc st ws c .words) i 0 ≡ getD ws i 0)
   unfolding alloc recycled fresh filled

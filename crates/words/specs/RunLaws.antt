@@ -7,7 +7,7 @@ use native.Mathlib.Numerals.{add-one}
 use native.Mathlib.Omega.{arith}
 use lib.ListN.{length, getD, set, take, drop, replicate, length-set, length-take, length-drop, length-replicate, getD-replicate, drop-of-length-le}
 use lib.Seq.{sets, sets-eq, set-comm, getD-set-other, getD-set-same, getD-take, getD-drop, length-sets, length-take-le, take-suc, drop-cons}
-use Rattle.words.specs.Runs.{filled, copied, stored}
+use Rattle.words.specs.Runs.{filled, copied}
 
 -- a run keeps the length
 pub length-filled : (ws : List ℕ) (at n v : ℕ) → length (filled ws at n v) ≡ length ws
