@@ -321,7 +321,7 @@ fn classes_and_sizes_beyond_the_limits_are_the_formulas() {
 }
 
 #[test]
-fn the_map_and_the_elements_have_no_limit_of_their_own() {
+fn reading_11_the_map_and_the_elements_have_no_limit_of_their_own() {
     let mut entry = one_list();
     entry.map = vec![7; 70_000];
     let after = done(&entry, Call::Audit { map_words: 70_000 }, 0);
@@ -330,7 +330,7 @@ fn the_map_and_the_elements_have_no_limit_of_their_own() {
 }
 
 #[test]
-fn no_word_of_the_map_changes_with_1_and_8() {
+fn reading_11_no_word_of_the_map_changes_with_1_and_8() {
     refused(&World { used: 6, ..one_list() }, Call::Audit { map_words: 3 }, 1);
     refused(&one_list(), Call::Audit { map_words: 0 }, 8);
     assert_eq!(done(&one_list(), Call::Audit { map_words: 1 }, 0).map, [1, 7, 7]);
@@ -338,7 +338,7 @@ fn no_word_of_the_map_changes_with_1_and_8() {
 
 /// The block at 8 is free and of 4 words: on the chain of class 1 its block would end at 16.
 #[test]
-fn a_pointer_on_a_chain_is_judged_as_a_head_of_its_class() {
+fn reading_12_a_pointer_on_a_chain_is_judged_as_a_head_of_its_class() {
     let words = [0, 9, M, M, M, M, M, M, 0, 0, M, M, M, M, M, M];
     refused(&world(&words[..12], &[(1, 1)], &[]), Call::Audit { map_words: 3 }, 9);
     let after = done(&world(&words, &[(1, 1)], &[]), Call::Audit { map_words: 4 }, 0);
@@ -350,7 +350,7 @@ fn a_pointer_on_a_chain_is_judged_as_a_head_of_its_class() {
 }
 
 #[test]
-fn a_block_met_twice_is_not_sound() {
+fn reading_12_a_block_met_twice_is_not_sound() {
     let audit = |map_words| Call::Audit { map_words };
     refused(&world(&[1, 7, M, M], &[], &[1, 1]), audit(1), 9);
     refused(&world(&[0, 1, M, M], &[(0, 1)], &[]), audit(1), 9);
@@ -360,7 +360,7 @@ fn a_block_met_twice_is_not_sound() {
 
 /// Two free blocks of 4 words: the first one's next word, 5, is among what it shows.
 #[test]
-fn places_that_grow_at_opens_show_what_stood_there() {
+fn reading_13_places_that_grow_at_opens_show_what_stood_there() {
     let entry = world(&[0, 5, 8, 9, 0, 0, M, M], &[(0, 1)], &[0]);
     let after = done(&entry, Call::GrowAt { slot: 0, position: 0, count: 3 }, 0);
     assert_eq!((list(&after, 0), after.heads), (vec![5, 8, 9], heads(&[(0, 5)])));
