@@ -7,7 +7,7 @@ use Rattle.sizes.specs.Class.{classCount, classOf, sizeOf}
 use Rattle.words.specs.Runs.{copied}
 use Rattle.pool.specs.Numbers.{_orElse_, stateOf, lengthAt, soundHandle, soundHead, given, tooLong, overLimit, entryNumber, entryNumber₂, badHead, noRoom, roomNumber, needsBlock, needNumber}
 use Rattle.pool.specs.Blocks.{MAX, recycled, alloc, moved}
-use Rattle.pool.specs.Rules.{Outcome, done, refused, Call, len, push, insert, take, truncate, copyFrom, deepClone, clearPool, called, unless, numberOf, doneOf, takeNumber, pushDone, insertDone, grown, opened, growNumber, growAtNumber, truncateNumber, copyFromNumber, copyFromDone, deepCloneNumber, deepCloneDone, clearPoolNumber, clearPoolDone}
+use Rattle.pool.specs.Rules.{Outcome, done, refused, Call, len, push, clear, insert, take, truncate, copyFrom, deepClone, clearPool, called, unless, numberOf, doneOf, cleared, clearDone, takeNumber, pushDone, insertDone, grown, opened, growNumber, growAtNumber, truncateNumber, copyFromNumber, copyFromDone, deepCloneNumber, deepCloneDone, clearPoolNumber, clearPoolDone}
 
 abbrev headed : ℕ → ℕ → List ℕ
 headed a b = set (set (replicate classCount 0) 0 a) 1 b
@@ -43,6 +43,8 @@ table =
     ∷ refusedRow (truncate 0 3) 12 (headed 0 0) (1 ∷ 5 ∷ 8 ∷ 9 ∷ 4 ∷ 7 ∷ 8 ∷ 9 ∷ 10 ∷ MAX ∷ MAX ∷ MAX ∷ []) (5 ∷ 1 ∷ 0 ∷ []) 7
     -- the pool's clear asks nothing of used
     ∷ row (clearPool) 3 (headed 9 9) (replicate 2 8) (5 ∷ []) (done 0 (stateOf 0 (headed 0 0)) (replicate 2 8) (0 ∷ []))
+    -- clear of an empty list gives 0 and does nothing
+    ∷ row (clear 0) 0 (headed 0 0) (replicate 4 8) (replicate 3 0) (done 0 (stateOf 0 (headed 0 0)) (replicate 4 8) (replicate 3 0))
     -- insert writes nothing behind its list
     ∷ row (insert 0 0 5) 8 (headed 0 0) (2 ∷ 1 ∷ 2 ∷ MAX ∷ 1 ∷ 9 ∷ MAX ∷ MAX ∷ []) (1 ∷ 5 ∷ []) (done 0 (stateOf 8 (headed 0 0)) (3 ∷ 5 ∷ 1 ∷ 2 ∷ 1 ∷ 9 ∷ MAX ∷ MAX ∷ []) (1 ∷ 5 ∷ []))
     -- copy_from takes its source words after the shift
@@ -52,5 +54,5 @@ table =
     ∷ []
 
 pub rows : map computed table ≡ table
-unfolding table computed unless numberOf doneOf takeNumber pushDone insertDone grown opened growNumber growAtNumber truncateNumber copyFromNumber copyFromDone deepCloneNumber deepCloneDone clearPoolNumber clearPoolDone _orElse_ lengthAt soundHandle soundHead given tooLong overLimit entryNumber entryNumber₂ badHead noRoom roomNumber needsBlock needNumber recycled alloc moved copied classOf sizeOf
+unfolding table computed unless numberOf doneOf cleared clearDone takeNumber pushDone insertDone grown opened growNumber growAtNumber truncateNumber copyFromNumber copyFromDone deepCloneNumber deepCloneDone clearPoolNumber clearPoolDone _orElse_ lengthAt soundHandle soundHead given tooLong overLimit entryNumber entryNumber₂ badHead noRoom roomNumber needsBlock needNumber recycled alloc moved copied classOf sizeOf
 rows = refl
