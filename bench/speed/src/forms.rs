@@ -156,8 +156,8 @@ unsafe extern "C" fn value_judged(
     }
 }
 
-/// The state by value, and all judged, cut into functions as the library is: one for the number, and one for the rest that takes the state by value and hands it back
-/// in an answer of its own.
+/// The state by value, and all judged, cut into functions as the library is: one for the number,
+/// and one for the rest that takes the state by value and hands it back in an answer of its own.
 #[inline(never)]
 unsafe extern "C" fn value_cut(
     state: State,

@@ -197,7 +197,7 @@ pub fn take_number(used: u32, pool: &[u32], handles: &[u32], slot: usize, to: us
     0
 }
 
-// The number of `push`: of growing by 1, which is never too much to count.
+// The number of `push`: of growing by 1, a count that needs no judging.
 pub fn push_number(
     used: u32,
     heads: &[u32; SizeClass::COUNT],
@@ -267,7 +267,7 @@ pub fn copy_from_number(
     more_number(used, heads, pool, len, end - start)
 }
 
-// The number of `insert`, likewise.
+// The number of `insert`: of growing by 1 at a position.
 pub fn insert_number(
     used: u32,
     heads: &[u32; SizeClass::COUNT],
