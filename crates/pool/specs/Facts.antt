@@ -48,6 +48,23 @@ pub else-second : (a b : ℕ) → (a orElse b) ≡ 0 → b ≡ 0
 unfolding _orElse_
 else-second a b e = ap (λ (t : Bool). cond t b a) (sym (eq-eqb a 0 (else-first a b e))) ∙ e
 
+-- the first number that is not 0: with none behind it, and of three
+pub else-none : (a : ℕ) → (a orElse 0) ≡ a
+unfolding _orElse_
+else-none a = go (eqb a 0) refl
+  where
+    go : (t : Bool) → eqb a 0 ≡ t → cond t 0 a ≡ a
+    go true e = sym (eqb-true a 0 e)
+    go false e = refl
+
+pub else-assoc : (a b c : ℕ) → ((a orElse b) orElse c) ≡ (a orElse (b orElse c))
+unfolding _orElse_
+else-assoc a b c = go (eqb a 0) refl
+  where
+    go : (t : Bool) → eqb a 0 ≡ t → cond (eqb (cond t b a) 0) c (cond t b a) ≡ cond t (cond (eqb b 0) c b) a
+    go true e = refl
+    go false e = rw e
+
 -- 1: the limits are kept
 pub record Within (used pool table : ℕ) : Type 0 where
   pub pool-limit : pool ≤ poolLimit

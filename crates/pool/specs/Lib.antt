@@ -3,6 +3,7 @@ pub mod Blocks
 pub mod Rules
 pub mod Parts
 pub mod Promises
+pub mod NumberTable
 pub mod Steps
 pub mod Facts
 pub mod StepLaws

@@ -1,15 +1,14 @@
 -- What holds of every call, from the shape of the rules: an outcome is determined, and a refusal changes nothing.
-use Prim.Native.Nat.{ℕ, _+_, _-_, _≤_}
+use Prim.Native.Nat.{ℕ, _+_, _-_}
 use mathlib.Core.Path.{_≡_, refl, sym, ap, _∙_}
 use mathlib.Core.Bool.{Bool, true, false, cond}
 use mathlib.Core.List.{List}
 use lib.Dec.{eqb, leb}
-use native.Mathlib.Omega.{arith}
 use borrow.Author.Tests.{ne-eqb, eqb-true}
 use lib.ListN.{length}
 use Rattle.pool.specs.declared.ListPool.{ListPool}
 use Rattle.pool.specs.declared.Answer.{Answer}
-use Rattle.pool.specs.Numbers.{_orElse_, handleAt, given, entryNumber, entryNumber₂, badHead, noRoom, roomNumber, needsBlock, needNumber}
+use Rattle.pool.specs.Numbers.{handleAt}
 use Rattle.pool.specs.Rules as rules
 use Rattle.pool.specs.Rules.{Outcome, outcome, refused, lenOf, Call, numberOf, doneOf, unless, called, cleared, lastRemoved, grown, opened}
 
@@ -85,61 +84,3 @@ module _ (call : Call) (st : ListPool) (ws hs : List ℕ) where
   pub done-where-zero : numberOf call st ws hs ≡ 0 → called call st ws hs ≡ doneOf call st ws hs
   unfolding called unless
   done-where-zero z = rw z
-
--- THE NUMBERS OF CALLS ARE 0 TO 7: 8 and 9 are "audit only"
-
-or-to-7 : {a b : ℕ} → a ≤ 7 → b ≤ 7 → (a orElse b) ≤ 7
-unfolding _orElse_
-or-to-7 {a} {b} p q = go (eqb a 0)
-  where
-    go : (t : Bool) → cond t b a ≤ 7
-    go true = q
-    go false = p
-
-given-to-7 : (n : ℕ) (t : Bool) → n ≤ 7 → given n t ≤ 7
-unfolding given
-given-to-7 n true p = p
-given-to-7 n false p = omega arith
-
-entry-to-7 : (used : ℕ) (ws hs : List ℕ) (slot : ℕ) → entryNumber used ws hs slot ≤ 7
-unfolding entryNumber
-entry-to-7 used ws hs slot = or-to-7 (given-to-7 1 _ (omega arith)) (or-to-7 (given-to-7 2 _ (omega arith)) (given-to-7 3 _ (omega arith)))
-
-entry-to-7₂ : (used : ℕ) (ws hs : List ℕ) (slot other : ℕ) → entryNumber₂ used ws hs slot other ≤ 7
-unfolding entryNumber₂
-entry-to-7₂ used ws hs slot other = or-to-7 (given-to-7 1 _ (omega arith)) (or-to-7 (given-to-7 2 _ (omega arith)) (given-to-7 3 _ (omega arith)))
-
-need-to-7 : (st : ListPool) (ws : List ℕ) (a b : ℕ) → needNumber st ws a b ≤ 7
-unfolding needNumber roomNumber
-need-to-7 st ws a b = go (needsBlock a b)
-  where
-    go : (t : Bool) → cond t (given 6 (badHead st ws b) orElse given 7 (noRoom st ws b)) 0 ≤ 7
-    go true = or-to-7 (given-to-7 6 _ (omega arith)) (given-to-7 7 _ (omega arith))
-    go false = omega arith
-
-at-to-7 : (used : ℕ) (ws hs : List ℕ) (slot position : ℕ) → rules.atNumber used ws hs slot position ≤ 7
-unfolding rules.atNumber
-at-to-7 used ws hs slot position = or-to-7 (entry-to-7 used ws hs slot) (given-to-7 4 _ (omega arith))
-
-pub numbers-to-7 : (call : Call) (st : ListPool) (ws hs : List ℕ) → numberOf call st ws hs ≤ 7
-unfolding numberOf rules.fromSliceNumber rules.deepCloneNumber rules.takeNumber rules.growNumber rules.copyFromNumber rules.growAtNumber rules.removeNumber rules.truncateNumber rules.clearPoolNumber
-numbers-to-7 (rules.fromSlice slot xs) st ws hs = or-to-7 (entry-to-7 _ ws hs slot) (or-to-7 (given-to-7 5 _ (omega arith)) (need-to-7 st ws _ _))
-numbers-to-7 (rules.isEmpty slot) st ws hs = entry-to-7 _ ws hs slot
-numbers-to-7 (rules.len slot) st ws hs = entry-to-7 _ ws hs slot
-numbers-to-7 (rules.isValid slot) st ws hs = entry-to-7 _ ws hs slot
-numbers-to-7 (rules.get slot position) st ws hs = at-to-7 _ ws hs slot position
-numbers-to-7 (rules.first slot) st ws hs = at-to-7 _ ws hs slot 0
-numbers-to-7 (rules.setAt slot position x) st ws hs = at-to-7 _ ws hs slot position
-numbers-to-7 (rules.deepClone slot to) st ws hs = or-to-7 (entry-to-7₂ _ ws hs slot to) (or-to-7 (given-to-7 5 _ (omega arith)) (need-to-7 st ws _ _))
-numbers-to-7 (rules.clear slot) st ws hs = entry-to-7 _ ws hs slot
-numbers-to-7 (rules.take slot to) st ws hs = or-to-7 (entry-to-7₂ _ ws hs slot to) (given-to-7 5 _ (omega arith))
-numbers-to-7 (rules.push slot x) st ws hs = or-to-7 (entry-to-7 _ ws hs slot) (need-to-7 st ws _ _)
-numbers-to-7 (rules.extend slot xs) st ws hs = or-to-7 (entry-to-7 _ ws hs slot) (need-to-7 st ws _ _)
-numbers-to-7 (rules.copyFrom slot source start end position) st ws hs =
-    or-to-7 (entry-to-7₂ _ ws hs slot source) (or-to-7 (given-to-7 4 _ (omega arith)) (or-to-7 (given-to-7 5 _ (omega arith)) (need-to-7 st ws _ _)))
-numbers-to-7 (rules.insert slot position x) st ws hs = or-to-7 (entry-to-7 _ ws hs slot) (or-to-7 (given-to-7 4 _ (omega arith)) (need-to-7 st ws _ _))
-numbers-to-7 (rules.remove slot position) st ws hs = or-to-7 (at-to-7 _ ws hs slot position) (need-to-7 st ws _ _)
-numbers-to-7 (rules.swapRemove slot position) st ws hs = or-to-7 (at-to-7 _ ws hs slot position) (need-to-7 st ws _ _)
-numbers-to-7 (rules.truncate slot n) st ws hs = or-to-7 (entry-to-7 _ ws hs slot) (need-to-7 st ws _ _)
-numbers-to-7 (rules.growAt slot position count) st ws hs = or-to-7 (entry-to-7 _ ws hs slot) (or-to-7 (given-to-7 4 _ (omega arith)) (need-to-7 st ws _ _))
-numbers-to-7 rules.clearPool st ws hs = given-to-7 1 _ (omega arith)

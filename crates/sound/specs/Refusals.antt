@@ -14,7 +14,7 @@ use lib.Dec.{eqb, leb, ltb}
 use Rattle.pool.specs.declared.ListPool.{ListPool}
 use Rattle.pool.specs.Numbers.{_orElse_, handleAt, given, entryNumber, entryNumber₂, needsBlock, needNumber}
 use Rattle.pool.specs.Rules.{Call, fromSlice, isEmpty, len, isValid, get, first, setAt, deepClone, clear, take, push, extend, copyFrom, insert, remove, swapRemove, truncate, growAt, clearPool, lenOf, numberOf, atNumber, takeNumber, growNumber, fromSliceNumber, deepCloneNumber, growAtNumber, copyFromNumber, removeNumber, truncateNumber}
-use Rattle.pool.specs.Facts.{within-limits}
+use Rattle.pool.specs.Facts.{within-limits, else-none, else-assoc}
 use Rattle.sound.specs.Sound.{listAt, Holds}
 use Rattle.sound.specs.Held.{handle-inside}
 use Rattle.sound.specs.Meaning.{not-shared}
@@ -85,23 +85,6 @@ lengths (swapRemove slot position) ls = length (listAt ls slot) to length (listA
 lengths (truncate slot n) ls = length (listAt ls slot) to min (length (listAt ls slot)) n
 lengths (growAt slot position count) ls = length (listAt ls slot) to length (listAt ls slot) + count
 lengths clearPool ls = 0 to 0
-
--- the first number that is not 0: with none behind it, and of three
-else-none : (a : ℕ) → (a orElse 0) ≡ a
-unfolding _orElse_
-else-none a = go (eqb a 0) refl
-  where
-    go : (t : Bool) → eqb a 0 ≡ t → cond t 0 a ≡ a
-    go true e = sym (eqb-true a 0 e)
-    go false e = refl
-
-else-assoc : (a b c : ℕ) → ((a orElse b) orElse c) ≡ (a orElse (b orElse c))
-unfolding _orElse_
-else-assoc a b c = go (eqb a 0) refl
-  where
-    go : (t : Bool) → eqb a 0 ≡ t → cond (eqb (cond t b a) 0) c (cond t b a) ≡ cond t (cond (eqb b 0) c b) a
-    go true e = refl
-    go false e = rw e
 
 module _ {st : ListPool} {ws hs : List ℕ} {ls : List (List ℕ)} (P : Holds st ws hs ls) where
   -- of 1, 2 and 3 there is left 2
