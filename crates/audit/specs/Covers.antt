@@ -14,8 +14,8 @@ use Rattle.pool.specs.declared.ListPool.{ListPool}
 use Rattle.pool.specs.Facts.{Within, handle-facts, head-facts}
 use Rattle.sound.specs.Sound.{sum, over, liveOver, freeOver, Chain, Cut}
 use Rattle.sound.specs.Sums.{over-le, sum-ge}
-use Rattle.sound.specs.Held.{live-none, live-some}
-use Rattle.sound.specs.Meaning.{words-add-up}
+use Rattle.sound.specs.SoundBut.{live-none, live-some}
+use Rattle.sound.specs.CutProperties.{words-add-up}
 use Rattle.audit.specs.Audit.{liveMark, freeMark, groupOf, groupsAt, accepted}
 use Rattle.audit.specs.Marks.{Mark, Made, Fits, fits-append, made-length, made-take, made-whole}
 use Rattle.audit.specs.Sweep.{groups-live, groups-free, markOver, marksOver, mapOver, mark-some, map-none, made-over, Sized, sized-made, over-made, swept-over, over-swept}

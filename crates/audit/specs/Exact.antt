@@ -1,4 +1,4 @@
--- The audit accepts exactly the sound pools, answers each number exactly when paper 01 says, and on 0 its map names the owner of every group of words.
+-- The audit accepts exactly the sound pools, answers each number exactly when paper 01 says, and on 0 its map tells of every group of words in which block it lies.
 use mathlib.Core.Path.{_≡_, refl, sym, ap, _∙_}
 use mathlib.Core.Bool.{true, true≢false}
 use mathlib.Core.List.{List, []}
@@ -18,7 +18,7 @@ use Rattle.pool.specs.Numbers.{poolLimit, tableLimit, stateOf, handleAt, overLi
 use Rattle.pool.specs.Rules.{Outcome, answer, lenOf}
 use Rattle.pool.specs.Facts.{Within, within-limits}
 use Rattle.sound.specs.Sound.{Cut, Sound}
-use Rattle.sound.specs.Meaning.{Place, live, free, Block, startOf, wordsOf, Lies, OnChain, word-in-one, word-in-block, word-in-none, cut-unique}
+use Rattle.sound.specs.CutProperties.{Place, live, free, Block, startOf, wordsOf, Lies, OnChain, word-in-one, word-in-block, word-in-none, cut-unique}
 use Rattle.sound.specs.Cleared.{cleared-sound}
 use Rattle.sound.specs.Runs.{Reached, reached-sound}
 use Rattle.audit.specs.Audit.{groupOf, Audited, audited, audit}
@@ -26,7 +26,7 @@ use Rattle.audit.specs.Marks.{made-length, made-past, made-has, made-fro
 use Rattle.audit.specs.Walks.{marksOf, Accepted, accepted-says}
 use Rattle.audit.specs.Covers.{marks-fit, accepted-cut, cut-accepted}
 use Rattle.audit.specs.Cases.{cleaned, Case, limit, short, accepts, refuses, audit-case, cleaned-clean, cleaned-past}
-use Rattle.audit.specs.Owners.{markOf, place-mark, mark-place, start-fours}
+use Rattle.audit.specs.PlaceMarks.{markOf, place-mark, mark-place, start-fours}
 
 -- the word that the audit leaves in the map for the group g
 abbrev pub mapWord : ListPool → List ℕ → List ℕ → List ℕ → ℕ → ℕ
@@ -229,11 +229,11 @@ module _ {st : ListPool} {ws hs : List ℕ} {fs : List (List ℕ)} (map : List �
       go (inr u) (no l) = absurd (word-in-none C (g * 4) (omega (arith, accepted-here .0 .fours)) p here)
 
   -- "For every group, whose block it is": all its words lie in one block; the map has that block's mark at its first group, and nothing from there up to the group.
-  pub map-owner : (g : ℕ) → g < st .used / 4
+  pub map-place : (g : ℕ) → g < st .used / 4
       → (p : Place) × ((i : ℕ) → i / 4 ≡ g → Lies ws hs fs i p)
       × (mapWord st ws hs map (startOf hs fs p / 4) ≡ markOf p)
       × ((d : ℕ) → startOf hs fs p / 4 < d → d ≤ g → mapWord st ws hs map d ≡ 0)
-  map-owner g l =
+  map-place g l =
       let (p, L, only) = word-in-block C (g * 4) (omega arith) in
       let B = L .block in
       let f = start-fours C p B in

@@ -13,10 +13,10 @@ use Rattle.pool.specs.Numbers.{handleAt}
 use Rattle.pool.specs.Rules.{lenOf, get, done, called}
 use Rattle.pool.specs.Facts.{Within, list-at}
 use Rattle.sound.specs.Sound.{Cut}
-use Rattle.sound.specs.Held.{handle-inside}
-use Rattle.sound.specs.Meaning.{live, free, Lies, blocks-apart}
+use Rattle.sound.specs.SoundBut.{handle-inside}
+use Rattle.sound.specs.CutProperties.{live, free, Lies, blocks-apart}
 use Rattle.sound.specs.Changes.{list-element, length-list}
-use Rattle.sound.specs.Kept.{its-lists}
+use Rattle.sound.specs.EveryCall.{its-lists}
 use Rattle.sound.specs.Reading.{get-reads}
 use Rattle.audit.specs.Audit.{audit}
 use Rattle.audit.specs.Exact.{audit-zero}

@@ -9,4 +9,4 @@ pub mod Sweep
 pub mod Walks
 pub mod Covers
 pub mod Cases
-pub mod Owners
+pub mod PlaceMarks

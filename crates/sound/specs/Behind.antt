@@ -21,17 +21,17 @@ use Rattle.pool.specs.Rules.{lenOf, grown}
 use Rattle.pool.specs.Steps.{CanAlloc, CanResize, Ready}
 use Rattle.pool.specs.StepLaws.{can-realloc}
 use Rattle.pool.specs.Facts.{stays}
-use Rattle.sound.specs.Sound.{Holds}
-use Rattle.sound.specs.Held.{span, Held, run-ext}
+use Rattle.sound.specs.Sound.{SoundWith}
+use Rattle.sound.specs.SoundBut.{span, SoundBut, run-ext}
 use Rattle.sound.specs.Steps.{own, alloc-took, realloc-took, moved-resized}
 use Rattle.sound.specs.Changes.{out}
-use Rattle.sound.specs.Meant.{behind}
+use Rattle.sound.specs.ListEffects.{behind}
 
 needs-some : (a b : ℕ) → needsBlock a b ≡ true → 0 < b
 unfolding needsBlock
 needs-some a b e = ⊎-elim (λ z. absurd (true≢false (sym (rw z at e)))) (λ p. p) (eq-zero-or-pos b)
 
-module _ {st : ListPool} {ws hs : List ℕ} (h a b : ℕ) (H : Held st ws hs (own h a)) (can : CanResize st (length ws) h a b) (e : needsBlock a b ≡ true) (up : a ≤ b) where
+module _ {st : ListPool} {ws hs : List ℕ} (h a b : ℕ) (H : SoundBut st ws hs (own h a)) (can : CanResize st (length ws) h a b) (e : needsBlock a b ≡ true) (up : a ≤ b) where
   abbrev new : Taken
   new = alloc st ws (classOf b)
 
@@ -49,7 +49,7 @@ module _ {st : ListPool} {ws hs : List ℕ} (h a b : ℕ) (H : Held st ws hs (ow
       go : (a ≡ 0) ⊎ (0 < a) → (m .block ≡ new .block) × ((j : ℕ) → a < j → j < sizeOf (classOf b) → getD (m .words) (m .block + j) 0 ≡ getD (new .words) (new .block + j) 0)
       go (inl z) = rw (eq-eqb a 0 z) (refl, λ j p q. refl)
       go (inr p) =
-          let K : Held st ws hs (span (h - 1) (sizeOf (classOf a)) ∷ []) = rw (ne-eqb a 0 (omega arith)) at H in
+          let K : SoundBut st ws hs (span (h - 1) (sizeOf (classOf a)) ∷ []) = rw (ne-eqb a 0 (omega arith)) at H in
           rw (ne-eqb a 0 (omega arith)) (
             refl,
             λ j l q. realloc-took (h - 1) (classOf a) (classOf b) (min a b + 1) K (can-realloc st (length ws) h a b can p e) .2 j (omega arith) q,
@@ -91,7 +91,7 @@ module _ (st : ListPool) (ws : List ℕ) (c : ℕ) (can : CanAlloc st (length ws
       ∙ sym (ap (λ (i : ℕ). getD (replicate count MAX) i 0) (omega arith) ∙ getD-replicate count j MAX 0 q))
       ∙ take-all count (replicate count MAX) (omega arith))
 
-module _ {st : ListPool} {ws hs : List ℕ} {ls : List (List ℕ)} (P : Holds st ws hs ls) (slot count : ℕ) (r : Ready st ws hs slot (lenOf ws hs slot + count)) where
+module _ {st : ListPool} {ws hs : List ℕ} {ls : List (List ℕ)} (P : SoundWith st ws hs ls) (slot count : ℕ) (r : Ready st ws hs slot (lenOf ws hs slot + count)) where
   abbrev size : ℕ
   size = lenOf ws hs slot
 
@@ -119,7 +119,7 @@ module _ {st : ListPool} {ws hs : List ℕ} {ls : List (List ℕ)} (P : Holds st
           let back : handleAt hs slot - 1 + 1 ≡ handleAt hs slot = omega (arith, r .can .list .some (s .some)) in
           found-in p ∙ rw (e, back) refl
 
-  -- what stands behind it is what `Meant` says
+  -- what stands behind it is what `behind` of ListEffects says
   pub behind-is : found ≡ behind st ws hs slot count
   unfolding behind
   behind-is = go (needsBlock size (size + count)) refl (eqb (headOf st c) 0) refl

@@ -20,10 +20,10 @@ use Rattle.pool.specs.Blocks.{Freed, free, moved}
 use Rattle.pool.specs.Rules.{Outcome, lenOf, done, seated, cleared, grown}
 use Rattle.pool.specs.Steps.{ListAt, Ready}
 use Rattle.pool.specs.Facts.{list-at}
-use Rattle.sound.specs.Sound.{over, listOf, lists, listAt, Holds}
+use Rattle.sound.specs.Sound.{over, listOf, lists, listAt, SoundWith}
 use Rattle.sound.specs.Sums.{over-in, over-part}
-use Rattle.sound.specs.Held.{span, spanOver, Held, held-sound, sound-held, held-write, run-ext, length-none, length-some}
-use Rattle.sound.specs.Moves.{held-out, held-in}
+use Rattle.sound.specs.SoundBut.{span, spanOver, SoundBut, held-sound, sound-held, held-write, run-ext, length-none, length-some}
+use Rattle.sound.specs.HandOver.{held-out, held-in}
 use Rattle.sound.specs.Steps.{getD-sets-other, own, moved-resized, free-gave}
 
 -- THE TABLE OF LISTS
@@ -57,14 +57,14 @@ take-drop-sets ws h n p (v ∷ vs) l =
     ∙ ap (λ (r : List ℕ). sets r (suc p) vs) (ap (take n) (drop-set-add h ws p v) ∙ take-set-lt n (drop h ws) p v (omega arith)))
 
 -- a pool that holds no block of a call
-pub holds : {st : ListPool} {ws hs : List ℕ} {ls : List (List ℕ)} → Held st ws hs [] → lists ws hs ≡ ls → Holds st ws hs ls
+pub holds : {st : ListPool} {ws hs : List ℕ} {ls : List (List ℕ)} → SoundBut st ws hs [] → lists ws hs ≡ ls → SoundWith st ws hs ls
 holds H e = record { sound = sound-held H; within = H .within; are = e }
 
 -- THE END OF A CALL: words vs changed inside the held block alone, which has the size of n's class and begins with n. It becomes the slot's
 -- block, and what it holds the slot's list.
-finish : {st : ListPool} {ws : List ℕ} (hs : List ℕ) (ls : List (List ℕ)) (slot b n s : ℕ) (vs : List ℕ) → Held st ws (set hs slot 0) (span b s ∷ [])
+finish : {st : ListPool} {ws : List ℕ} (hs : List ℕ) (ls : List (List ℕ)) (slot b n s : ℕ) (vs : List ℕ) → SoundBut st ws (set hs slot 0) (span b s ∷ [])
     → lists ws (set hs slot 0) ≡ set ls slot [] → slot < length hs → length vs ≡ length ws → ((i : ℕ) → over b s i ≡ 0 → getD vs i 0 ≡ getD ws i 0)
-    → getD vs b 0 ≡ n → 1 ≤ n → sizeOf (classOf n) ≡ s → Holds st vs (set hs slot (b + 1)) (set ls slot (take n (drop (b + 1) vs)))
+    → getD vs b 0 ≡ n → 1 ≤ n → sizeOf (classOf n) ≡ s → SoundWith st vs (set hs slot (b + 1)) (set ls slot (take n (drop (b + 1) vs)))
 unfolding spanOver listOf
 finish {st} {ws} hs ls slot b n s vs H are l long rest e p q =
     let W = held-write H vs long (λ i u x. rest i (omega arith)) in
@@ -78,8 +78,8 @@ finish {st} {ws} hs ls slot b n s vs H are l long rest e p q =
     ∙ set-set ls slot [] new
     ∙ ap (λ (k : ℕ). set ls slot (take k (drop (b + 1) vs))) len))
 
-module _ {st : ListPool} {ws hs : List ℕ} {ls : List (List ℕ)} (P : Holds st ws hs ls) where
-  pub held : Held st ws hs []
+module _ {st : ListPool} {ws hs : List ℕ} {ls : List (List ℕ)} (P : SoundWith st ws hs ls) where
+  pub held : SoundBut st ws hs []
   held = held-sound (P .within) (P .sound)
 
   -- the list in a slot
@@ -118,27 +118,27 @@ module _ {st : ListPool} {ws hs : List ℕ} {ls : List (List ℕ)} (P : Holds st
   list-empty slot z = list-of slot ∙ ap (listOf ws) z ∙ list-none ws
 
   -- the slot's block, if it has one, is held
-  pub out : (slot : ℕ) → slot < length hs → Held st ws (set hs slot 0) (own (handleAt hs slot) (lenOf ws hs slot))
+  pub out : (slot : ℕ) → slot < length hs → SoundBut st ws (set hs slot 0) (own (handleAt hs slot) (lenOf ws hs slot))
   out slot l = go (eq-zero-or-pos (handleAt hs slot))
     where
-      go : (handleAt hs slot ≡ 0) ⊎ (0 < handleAt hs slot) → Held st ws (set hs slot 0) (own (handleAt hs slot) (lenOf ws hs slot))
+      go : (handleAt hs slot ≡ 0) ⊎ (0 < handleAt hs slot) → SoundBut st ws (set hs slot 0) (own (handleAt hs slot) (lenOf ws hs slot))
       go (inl z) =
           rw (eq-eqb (lenOf ws hs slot) 0 (ap (lengthAt ws) z ∙ length-none ws), ap (set hs slot) (sym z) ∙ set-getD hs slot 0) held
       go (inr p) =
           rw (ne-eqb (lenOf ws hs slot) 0 (omega (arith, list-here slot .live p)), length-some ws (handleAt hs slot) p) (held-out slot held l p)
 
--- the lists are ls, but l in the slot
-pub record Has (st : ListPool) (ws hs : List ℕ) (ls : List (List ℕ)) (slot : ℕ) (l : List ℕ) : Type 0 where
+-- A sound pool within the limits whose lists are ls with the list in the slot set to l; and a call that leaves such a pool.
+pub record SoundWithSet (st : ListPool) (ws hs : List ℕ) (ls : List (List ℕ)) (slot : ℕ) (l : List ℕ) : Type 0 where
   pub inside : slot < length ls
-  pub holds : Holds st ws hs (set ls slot l)
+  pub holds : SoundWith st ws hs (set ls slot l)
 
-abbrev pub Left : Outcome → List (List ℕ) → ℕ → List ℕ → Type 0
-Left o ls slot l = Has (o .answer .state) (o .words) (o .handles) ls slot l
+abbrev pub LeavesWithSet : Outcome → List (List ℕ) → ℕ → List ℕ → Type 0
+LeavesWithSet o ls slot l = SoundWithSet (o .answer .state) (o .words) (o .handles) ls slot l
 
-pub has : {st : ListPool} {ws hs : List ℕ} {ls : List (List ℕ)} (slot : ℕ) → Holds st ws hs ls → slot < length hs → Has st ws hs ls slot (listAt ls slot)
+pub has : {st : ListPool} {ws hs : List ℕ} {ls : List (List ℕ)} (slot : ℕ) → SoundWith st ws hs ls → slot < length hs → SoundWithSet st ws hs ls slot (listAt ls slot)
 has {ls = ls} slot P l = record { inside = omega (arith, length-lists P); holds = rw (set-getD ls slot []) P }
 
-module _ {st : ListPool} {ws hs : List ℕ} {ls : List (List ℕ)} {slot : ℕ} {l : List ℕ} (P : Has st ws hs ls slot l) where
+module _ {st : ListPool} {ws hs : List ℕ} {ls : List (List ℕ)} {slot : ℕ} {l : List ℕ} (P : SoundWithSet st ws hs ls slot l) where
   has-here : slot < length hs
   has-here = omega (arith, P .inside, length-lists (P .holds), length-set ls slot l)
 
@@ -168,7 +168,7 @@ module _ {st : ListPool} {ws hs : List ℕ} {ls : List (List ℕ)} {slot : ℕ} 
 
   -- words stored among the elements of a list: no other list and nothing else changes
   written-some : (p : ℕ) (vs : List ℕ) → 0 < lenOf ws hs slot → p + length vs ≤ lenOf ws hs slot
-      → Has st (sets ws (handleAt hs slot + p) vs) hs ls slot (sets l p vs)
+      → SoundWithSet st (sets ws (handleAt hs slot + p) vs) hs ls slot (sets l p vs)
   written-some p vs q r =
       let h = handleAt hs slot in
       let n = lenOf ws hs slot in
@@ -177,7 +177,7 @@ module _ {st : ListPool} {ws hs : List ℕ} {ls : List (List ℕ)} {slot : ℕ} 
       let some = list .some q in
       let fits = class-fits n (omega (arith, list .short)) in
       let back : h - 1 + 1 ≡ h = omega arith in
-      let O : Held st ws (set hs slot 0) (span (h - 1) s ∷ []) = rw (ne-eqb n 0 (omega arith)) at (out (P .holds) slot has-here) in
+      let O : SoundBut st ws (set hs slot 0) (span (h - 1) s ∷ []) = rw (ne-eqb n 0 (omega arith)) at (out (P .holds) slot has-here) in
       let F =
       finish hs ls slot (h - 1) n s (sets ws (h + p) vs) O has-out has-here (length-sets ws (h + p) vs)
       (λ i o. getD-sets-other ws (h + p) vs i (over-part (h - 1) s (h + p) (length vs) i o (omega arith) (omega arith)))
@@ -185,14 +185,14 @@ module _ {st : ListPool} {ws hs : List ℕ} {ls : List (List ℕ)} {slot : ℕ} 
       let e : take n (drop h (sets ws (h + p) vs)) ≡ sets l p vs = take-drop-sets ws h n p vs r ∙ ap (λ (r : List ℕ). sets r p vs) (sym has-is) in
       record { inside = P .inside; holds = rw (back, set-getD hs slot 0, e) at F }
 
-  pub written : (p : ℕ) (vs : List ℕ) → p + length vs ≤ length l → Has st (sets ws (handleAt hs slot + p) vs) hs ls slot (sets l p vs)
+  pub written : (p : ℕ) (vs : List ℕ) → p + length vs ≤ length l → SoundWithSet st (sets ws (handleAt hs slot + p) vs) hs ls slot (sets l p vs)
   written p [] r = P
   written p (v ∷ vs) r = let n = has-length in written-some p (v ∷ vs) (omega arith) (omega arith)
 
   -- the list gets b elements, some: those that it has and had are as they were
   resized : (b : ℕ) → Ready st ws hs slot b → 0 < b
       → (xs : List ℕ) × (length xs ≡ b) × (take (min (length l) b) xs ≡ take (min (length l) b) l)
-      × Left (seated 0 (moved st ws (handleAt hs slot) (lenOf ws hs slot) b) hs slot b) ls slot xs
+      × LeavesWithSet (seated 0 (moved st ws (handleAt hs slot) (lenOf ws hs slot) b) hs slot b) ls slot xs
   resized b ready p =
       let h = handleAt hs slot in
       let n = lenOf ws hs slot in
@@ -220,7 +220,7 @@ module _ {st : ListPool} {ws hs : List ℕ} {ls : List (List ℕ)} {slot : ℕ} 
 
   -- the same list shorter
   pub shrunk : (b : ℕ) → Ready st ws hs slot b → 0 < b → b ≤ length l
-      → Left (seated 0 (moved st ws (handleAt hs slot) (lenOf ws hs slot) b) hs slot b) ls slot (take b l)
+      → LeavesWithSet (seated 0 (moved st ws (handleAt hs slot) (lenOf ws hs slot) b) hs slot b) ls slot (take b l)
   shrunk b ready p q =
       let (xs, n, e, F) = resized b ready p in
       let m : min (length l) b ≡ b = omega arith in
@@ -229,7 +229,7 @@ module _ {st : ListPool} {ws hs : List ℕ} {ls : List (List ℕ)} {slot : ℕ} 
 
   -- the same list with count elements more at its end, whatever stood there
   pub grew : (count : ℕ) → Ready st ws hs slot (lenOf ws hs slot + count)
-      → (zs : List ℕ) × (length zs ≡ count) × Left (grown st ws hs slot count) ls slot (l ++ zs)
+      → (zs : List ℕ) × (length zs ≡ count) × LeavesWithSet (grown st ws hs slot count) ls slot (l ++ zs)
   unfolding grown
   grew count ready = go (eq-zero-or-pos (lenOf ws hs slot + count))
     where
@@ -238,7 +238,7 @@ module _ {st : ListPool} {ws hs : List ℕ} {ls : List (List ℕ)} {slot : ℕ} 
 
       go : (n + count ≡ 0) ⊎ (0 < n + count)
           → (zs : List ℕ) × (length zs ≡ count)
-          × Left (cond (eqb (n + count) 0) (done 0 st ws hs) (seated 0 (moved st ws (handleAt hs slot) n (n + count)) hs slot (n + count))) ls slot (l ++ zs)
+          × LeavesWithSet (cond (eqb (n + count) 0) (done 0 st ws hs) (seated 0 (moved st ws (handleAt hs slot) n (n + count)) hs slot (n + count))) ls slot (l ++ zs)
       go (inl z) = ([], omega arith, rw (eq-eqb (n + count) 0 z, append-nil l) P)
       go (inr p) =
           let k = has-length in
@@ -249,7 +249,7 @@ module _ {st : ListPool} {ws hs : List ℕ} {ls : List (List ℕ)} {slot : ℕ} 
           (drop (length l) xs, length-drop (length l) xs ∙ omega arith, rw (ne-eqb (n + count) 0 (omega arith), all) F)
 
   -- the list is cleared
-  pub emptied : Left (cleared st ws hs slot (handleAt hs slot) (lenOf ws hs slot)) ls slot []
+  pub emptied : LeavesWithSet (cleared st ws hs slot (handleAt hs slot) (lenOf ws hs slot)) ls slot []
   unfolding cleared
   emptied = go (eq-zero-or-pos (handleAt hs slot))
     where
@@ -259,11 +259,11 @@ module _ {st : ListPool} {ws hs : List ℕ} {ls : List (List ℕ)} {slot : ℕ} 
       f : Freed
       f = free st ws (h - 1) (classOf (lenOf ws hs slot))
 
-      go : (h ≡ 0) ⊎ (0 < h) → Left (cond (eqb h 0) (done 0 st ws hs) (done 0 (f .state) (f .words) (set hs slot 0))) ls slot []
+      go : (h ≡ 0) ⊎ (0 < h) → LeavesWithSet (cond (eqb h 0) (done 0 st ws hs) (done 0 (f .state) (f .words) (set hs slot 0))) ls slot []
       go (inl z) = rw (eq-eqb h 0 z, sym (list-none ws) ∙ ap (listOf ws) (sym z) ∙ sym (list-of (P .holds) slot) ∙ has-list) P
       go (inr p) =
           let n = lenOf ws hs slot in
           let some = list-here (P .holds) slot .live p in
-          let O : Held st ws (set hs slot 0) (span (h - 1) (sizeOf (classOf n)) ∷ []) = rw (ne-eqb n 0 (omega arith)) at (out (P .holds) slot has-here) in
+          let O : SoundBut st ws (set hs slot 0) (span (h - 1) (sizeOf (classOf n)) ∷ []) = rw (ne-eqb n 0 (omega arith)) at (out (P .holds) slot has-here) in
           let G = free-gave (h - 1) (classOf n) O (class-below n (list-here (P .holds) slot .short)) in
           rw (ne-eqb h 0 (omega arith)) (record { inside = P .inside; holds = holds (G .held) (G .same ∙ has-out) })

@@ -10,9 +10,9 @@ use Rattle.pool.specs.declared.ListPool.{ListPool}
 use Rattle.pool.specs.Numbers.{poolLimit, tableLimit, tooLong, given, stateOf, lengthAt, soundHandle}
 use Rattle.pool.specs.Rules.{clearPool, numberOf, doneOf, unless, called, clearPoolNumber, clearPoolDone}
 use Rattle.pool.specs.Facts.{given-zero, neither}
-use Rattle.sound.specs.Sound.{sum, freeOver, liveOver, Sound, listOf, lists, Leaves}
+use Rattle.sound.specs.Sound.{sum, freeOver, liveOver, Sound, listOf, lists, LeavesWith}
 use Rattle.sound.specs.Sums.{over-right, sum-zero}
-use Rattle.sound.specs.Held.{live-none}
+use Rattle.sound.specs.SoundBut.{live-none}
 
 -- each element of n times a is a, and so is what stands behind them
 getD-replicate-all {ℓ} : {A : Type ℓ} (n k : ℕ) (a : A) → getD (replicate n a) k a ≡ a
@@ -47,7 +47,7 @@ lists-none ws zero = refl
 lists-none ws (suc n) = ap (λ (r : List (List ℕ)). [] ∷ r) (lists-none ws n)
 
 -- "clearing the pool empties all"
-pub clear-pool-holds : (st : ListPool) (ws hs : List ℕ) → numberOf clearPool st ws hs ≡ 0 → Leaves (doneOf clearPool st ws hs) (replicate (length hs) [])
+pub clear-pool-holds : (st : ListPool) (ws hs : List ℕ) → numberOf clearPool st ws hs ≡ 0 → LeavesWith (doneOf clearPool st ws hs) (replicate (length hs) [])
 unfolding numberOf doneOf clearPoolNumber clearPoolDone lists tooLong
 clear-pool-holds st ws hs e =
     let t = neither (given-zero 1 _ (omega arith) e) in
@@ -68,6 +68,6 @@ unfolding numberOf clearPoolNumber tooLong given
 clear-pool-zero st ws hs pool table = rw (le-ltb poolLimit (length ws) pool, le-ltb tableLimit (length hs) table)
 
 -- both: whatever the state, the words and the handles were, the pool's `clear` within the limits is done
-pub cleared-holds : (st : ListPool) (ws hs : List ℕ) → length ws ≤ poolLimit → length hs ≤ tableLimit → Leaves (called clearPool st ws hs) (replicate (length hs) [])
+pub cleared-holds : (st : ListPool) (ws hs : List ℕ) → length ws ≤ poolLimit → length hs ≤ tableLimit → LeavesWith (called clearPool st ws hs) (replicate (length hs) [])
 unfolding called unless
 cleared-holds st ws hs pool table = let e = clear-pool-zero st ws hs pool table in rw e (clear-pool-holds st ws hs e)

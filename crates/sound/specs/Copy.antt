@@ -17,11 +17,11 @@ use Rattle.pool.specs.Numbers.{handleAt}
 use Rattle.pool.specs.Blocks.{moved}
 use Rattle.pool.specs.Rules.{lenOf, done, seated, deepClone, copyFrom, numberOf, doneOf, grown, opened, deepCloneNumber, copyFromNumber, deepCloneDone, copyFromDone}
 use Rattle.pool.specs.Facts.{given-zero, neither, else-first, else-second, entry-facts₂, ready, ready-empty}
-use Rattle.sound.specs.Sound.{listAt, Holds, Leaves}
-use Rattle.sound.specs.Changes.{Has, Left, has, other-part, length-list, list-here, list-empty, written, grew}
+use Rattle.sound.specs.Sound.{listAt, SoundWith, LeavesWith}
+use Rattle.sound.specs.Changes.{SoundWithSet, LeavesWithSet, has, other-part, length-list, list-here, list-empty, written, grew}
 use Rattle.sound.specs.Sequences.{insertAll, openAt, range}
 use Rattle.sound.specs.SequenceLaws.{length-insert, sets-end, sets-insert}
-use Rattle.sound.specs.Meant.{behind}
+use Rattle.sound.specs.ListEffects.{behind}
 use Rattle.sound.specs.Grow.{opens}
 
 -- no other handle changes where a list grows
@@ -33,9 +33,9 @@ grown-other st ws hs slot count other q = go (eqb (lenOf ws hs slot + count) 0)
     go true = refl
     go false = getD-set-other hs slot other (moved st ws (handleAt hs slot) (lenOf ws hs slot) (lenOf ws hs slot + count) .block + 1) 0 q
 
-module _ {st : ListPool} {ws hs : List ℕ} {ls : List (List ℕ)} (P : Holds st ws hs ls) where
+module _ {st : ListPool} {ws hs : List ℕ} {ls : List (List ℕ)} (P : SoundWith st ws hs ls) where
   -- a list is read where it was, after another, empty list has grown; the empty list itself has nothing to read
-  clone-read : (slot to count : ℕ) {l : List ℕ} → handleAt hs to ≡ 0 → Left (grown st ws hs to count) ls to l
+  clone-read : (slot to count : ℕ) {l : List ℕ} → handleAt hs to ≡ 0 → LeavesWithSet (grown st ws hs to count) ls to l
       → take (lenOf ws hs slot) (drop (handleAt hs slot) (grown st ws hs to count .words)) ≡ listAt ls slot
   clone-read slot to count z G = go (ℕ-discrete slot to)
     where
@@ -48,13 +48,13 @@ module _ {st : ListPool} {ws hs : List ℕ} {ls : List (List ℕ)} (P : Holds st
 
   -- "clone"
   pub deep-clone-holds : (slot to : ℕ) → numberOf (deepClone slot to) st ws hs ≡ 0
-      → Leaves (doneOf (deepClone slot to) st ws hs) (set ls to (listAt ls slot))
+      → LeavesWith (doneOf (deepClone slot to) st ws hs) (set ls to (listAt ls slot))
   unfolding numberOf doneOf deepCloneNumber deepCloneDone copied
   deep-clone-holds slot to e =
       let f = entry-facts₂ (st .used) ws hs slot to (else-first _ _ e) .1 in
       let z : handleAt hs to ≡ 0 = eqb-true _ _ (not-false _ (given-zero 5 _ (omega arith) (else-first _ _ (else-second _ _ e)))) in
       let r = ready-empty st ws hs to (lenOf ws hs slot) f z (else-second _ _ (else-second _ _ e)) in
-      let L : Has st ws hs ls to [] = rw (list-empty P to z) at (has to P (f .inside)) in
+      let L : SoundWithSet st ws hs ls to [] = rw (list-empty P to z) at (has to P (f .inside)) in
       let (zs, k, G) = grew L (lenOf ws hs slot) r in
       let l = listAt ls slot in
       let n = length-list P slot in
@@ -62,7 +62,7 @@ module _ {st : ListPool} {ws hs : List ℕ} {ls : List (List ℕ)} (P : Holds st
 
   -- "copy a range in"
   pub copy-from-holds : (slot source start end p : ℕ) → numberOf (copyFrom slot source start end p) st ws hs ≡ 0
-      → Leaves (doneOf (copyFrom slot source start end p) st ws hs) (set ls slot (insertAll p (range start end (listAt ls source)) (listAt ls slot)))
+      → LeavesWith (doneOf (copyFrom slot source start end p) st ws hs) (set ls slot (insertAll p (range start end (listAt ls source)) (listAt ls slot)))
   unfolding numberOf doneOf copyFromNumber copyFromDone opened copied openAt range
   copy-from-holds slot source start end p e =
       let e2 = else-second _ _ e in

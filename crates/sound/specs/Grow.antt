@@ -15,16 +15,16 @@ use Rattle.pool.specs.Blocks.{moved}
 use Rattle.pool.specs.Rules.{lenOf, fromSlice, push, extend, insert, growAt, numberOf, doneOf, grown, opened, fromSliceNumber, pushDone, extendDone, fromSliceDone, insertDone, growAtDone}
 use Rattle.pool.specs.Steps.{Ready}
 use Rattle.pool.specs.Facts.{given-zero, else-first, else-second, entry-facts, grow-facts, grow-at-facts, ready-empty}
-use Rattle.sound.specs.Sound.{listAt, Holds, Leaves}
-use Rattle.sound.specs.Changes.{Has, Left, has, has-length, has-part, length-list, list-empty, written, grew}
+use Rattle.sound.specs.Sound.{listAt, SoundWith, LeavesWith}
+use Rattle.sound.specs.Changes.{SoundWithSet, LeavesWithSet, has, has-length, has-part, length-list, list-empty, written, grew}
 use Rattle.sound.specs.Sequences.{insertAll, openAt}
-use Rattle.sound.specs.Meant.{behind}
+use Rattle.sound.specs.ListEffects.{behind}
 use Rattle.sound.specs.Behind.{behind-is}
 use Rattle.sound.specs.SequenceLaws.{length-insert, sets-end, sets-open, sets-insert}
 
-module _ {st : ListPool} {ws hs : List ℕ} {ls : List (List ℕ)} {slot : ℕ} {l : List ℕ} (L : Has st ws hs ls slot l) where
+module _ {st : ListPool} {ws hs : List ℕ} {ls : List (List ℕ)} {slot : ℕ} {l : List ℕ} (L : SoundWithSet st ws hs ls slot l) where
   -- the list grows and the places at its end are filled
-  extended : (xs : List ℕ) → Ready st ws hs slot (lenOf ws hs slot + length xs) → Left (extendDone st ws hs slot xs) ls slot (l ++ xs)
+  extended : (xs : List ℕ) → Ready st ws hs slot (lenOf ws hs slot + length xs) → LeavesWithSet (extendDone st ws hs slot xs) ls slot (l ++ xs)
   unfolding extendDone stored
   extended xs r =
       let (zs, n, G) = grew L (length xs) r in
@@ -32,7 +32,7 @@ module _ {st : ListPool} {ws hs : List ℕ} {ls : List (List ℕ)} {slot : ℕ} 
       rw (← (has-length L), ← (sets-end l zs xs n)) W
 
   -- the element is written before the length, which comes to the same
-  pushed : (x : ℕ) → Ready st ws hs slot (lenOf ws hs slot + 1) → Left (pushDone st ws hs slot x) ls slot (l ++ x ∷ [])
+  pushed : (x : ℕ) → Ready st ws hs slot (lenOf ws hs slot + 1) → LeavesWithSet (pushDone st ws hs slot x) ls slot (l ++ x ∷ [])
   unfolding pushDone extendDone grown stored
   pushed x r =
       let n = lenOf ws hs slot in
@@ -43,9 +43,9 @@ module _ {st : ListPool} {ws hs : List ℕ} {ls : List (List ℕ)} {slot : ℕ} 
       ∙ ap (λ (k : ℕ). set (set (m .words) (m .block) (n + 1)) k x) (omega arith) in
       rw order (rw (ne-eqb (n + 1) 0 (omega arith)) at (extended (x ∷ []) r))
 
-module _ {st : ListPool} {ws hs : List ℕ} {ls : List (List ℕ)} {slot : ℕ} (l zs : List ℕ) (L : Has st ws hs ls slot (l ++ zs)) where
+module _ {st : ListPool} {ws hs : List ℕ} {ls : List (List ℕ)} {slot : ℕ} (l zs : List ℕ) (L : SoundWithSet st ws hs ls slot (l ++ zs)) where
   -- the first elements are shifted up over the last
-  shifted : (p : ℕ) → p ≤ length l → Has st (copied ws (handleAt hs slot + p) (handleAt hs slot + p + length zs) (length l - p)) hs ls slot (openAt p zs l)
+  shifted : (p : ℕ) → p ≤ length l → SoundWithSet st (copied ws (handleAt hs slot + p) (handleAt hs slot + p + length zs) (length l - p)) hs ls slot (openAt p zs l)
   unfolding copied openAt
   shifted p h =
       let n = length-append l zs in
@@ -57,10 +57,10 @@ module _ {st : ListPool} {ws hs : List ℕ} {ls : List (List ℕ)} {slot : ℕ} 
   last-part =
       has-part L (length l) (length zs) (rw length-append (omega arith)) ∙ rw (drop-append-seam l zs) (take-length zs)
 
-module _ {st : ListPool} {ws hs : List ℕ} {ls : List (List ℕ)} {slot : ℕ} {l : List ℕ} (L : Has st ws hs ls slot l) where
+module _ {st : ListPool} {ws hs : List ℕ} {ls : List (List ℕ)} {slot : ℕ} {l : List ℕ} (L : SoundWithSet st ws hs ls slot l) where
   -- the list grows and places are opened at a position
   pub opens : (p count : ℕ) → p ≤ length l → Ready st ws hs slot (lenOf ws hs slot + count)
-      → (length (behind st ws hs slot count) ≡ count) × Left (opened st ws hs slot p count) ls slot (openAt p (behind st ws hs slot count) l)
+      → (length (behind st ws hs slot count) ≡ count) × LeavesWithSet (opened st ws hs slot p count) ls slot (openAt p (behind st ws hs slot count) l)
   unfolding opened
   opens p count h r =
       let (zs, n, G) = grew L count r in
@@ -68,7 +68,7 @@ module _ {st : ListPool} {ws hs : List ℕ} {ls : List (List ℕ)} {slot : ℕ} 
       rw e (n, rw (n, has-length L) at (shifted l zs G p h))
 
   -- the places are opened behind a push, and the element is written there
-  inserted : (p x : ℕ) → p ≤ length l → Ready st ws hs slot (lenOf ws hs slot + 1) → Left (insertDone st ws hs slot p x) ls slot (insertAll p (x ∷ []) l)
+  inserted : (p x : ℕ) → p ≤ length l → Ready st ws hs slot (lenOf ws hs slot + 1) → LeavesWithSet (insertDone st ws hs slot p x) ls slot (insertAll p (x ∷ []) l)
   unfolding insertDone openAt
   inserted p x h r =
       let ys = take 1 (drop p (l ++ x ∷ [])) in
@@ -77,22 +77,22 @@ module _ {st : ListPool} {ws hs : List ℕ} {ls : List (List ℕ)} {slot : ℕ} 
       let W = written S p (x ∷ []) (rw length-insert (omega arith)) in
       rw (sets-insert l ys (x ∷ []) p h n, has-length L) at W
 
-module _ {st : ListPool} {ws hs : List ℕ} {ls : List (List ℕ)} (P : Holds st ws hs ls) where
+module _ {st : ListPool} {ws hs : List ℕ} {ls : List (List ℕ)} (P : SoundWith st ws hs ls) where
   -- "append"
   pub push-holds : (slot x : ℕ) → numberOf (push slot x) st ws hs ≡ 0
-      → Leaves (doneOf (push slot x) st ws hs) (set ls slot (listAt ls slot ++ x ∷ []))
+      → LeavesWith (doneOf (push slot x) st ws hs) (set ls slot (listAt ls slot ++ x ∷ []))
   unfolding numberOf doneOf
   push-holds slot x e = let r = grow-facts st ws hs slot 1 e in pushed (has slot P (r .inside)) x r .holds
 
   -- "concatenate"
   pub extend-holds : (slot : ℕ) (xs : List ℕ) → numberOf (extend slot xs) st ws hs ≡ 0
-      → Leaves (doneOf (extend slot xs) st ws hs) (set ls slot (listAt ls slot ++ xs))
+      → LeavesWith (doneOf (extend slot xs) st ws hs) (set ls slot (listAt ls slot ++ xs))
   unfolding numberOf doneOf
   extend-holds slot xs e = let r = grow-facts st ws hs slot (length xs) e in extended (has slot P (r .inside)) xs r .holds
 
   -- `from_slice`: an empty list becomes the slice
   pub from-slice-holds : (slot : ℕ) (xs : List ℕ) → numberOf (fromSlice slot xs) st ws hs ≡ 0
-      → Leaves (doneOf (fromSlice slot xs) st ws hs) (set ls slot xs)
+      → LeavesWith (doneOf (fromSlice slot xs) st ws hs) (set ls slot xs)
   unfolding numberOf doneOf fromSliceNumber fromSliceDone extendDone
   from-slice-holds slot xs e =
       let f = entry-facts (st .used) ws hs slot (else-first _ _ e) in
@@ -102,7 +102,7 @@ module _ {st : ListPool} {ws hs : List ℕ} {ls : List (List ℕ)} (P : Holds st
 
   -- "insert at"
   pub insert-holds : (slot p x : ℕ) → numberOf (insert slot p x) st ws hs ≡ 0
-      → Leaves (doneOf (insert slot p x) st ws hs) (set ls slot (insertAll p (x ∷ []) (listAt ls slot)))
+      → LeavesWith (doneOf (insert slot p x) st ws hs) (set ls slot (insertAll p (x ∷ []) (listAt ls slot)))
   unfolding numberOf doneOf
   insert-holds slot p x e =
       let (place, r) = grow-at-facts st ws hs slot p 1 e in
@@ -110,7 +110,7 @@ module _ {st : ListPool} {ws hs : List ℕ} {ls : List (List ℕ)} (P : Holds st
 
   -- "the places `grow_at` opens hold what 01 says"
   pub grow-at-holds : (slot p count : ℕ) → numberOf (growAt slot p count) st ws hs ≡ 0
-      → Leaves (doneOf (growAt slot p count) st ws hs) (set ls slot (openAt p (behind st ws hs slot count) (listAt ls slot)))
+      → LeavesWith (doneOf (growAt slot p count) st ws hs) (set ls slot (openAt p (behind st ws hs slot count) (listAt ls slot)))
   unfolding numberOf doneOf growAtDone
   grow-at-holds slot p count e =
       let (place, r) = grow-at-facts st ws hs slot p count e in

@@ -12,11 +12,11 @@ use lib.Dec.{eqb}
 use Rattle.pool.specs.declared.ListPool.{ListPool}
 use Rattle.pool.specs.Numbers.{_orElse_, handleAt, lengthAt, given, entryNumber}
 use Rattle.pool.specs.Rules.{isEmpty, len, isValid, get, first, push, lenOf, done, refused, numberOf, doneOf, unless, called, atNumber, isEmptyDone, lenDone, isValidDone, getDone, pushDone, part}
-use Rattle.sound.specs.Sound.{listAt, Holds}
+use Rattle.sound.specs.Sound.{listAt, SoundWith}
 use Rattle.sound.specs.Changes.{list-is, list-element, length-list, length-lists}
 use Rattle.sound.specs.Refusals.{entry-is, empty-is}
 
-module _ {st : ListPool} {ws hs : List ℕ} {ls : List (List ℕ)} (P : Holds st ws hs ls) where
+module _ {st : ListPool} {ws hs : List ℕ} {ls : List (List ℕ)} (P : SoundWith st ws hs ls) where
   named : {slot : ℕ} → slot < length hs → entryNumber (st .used) ws hs slot ≡ 0
   unfolding given
   named {slot} l = rw (entry-is P slot, length-lists P, lt-leb (length hs) slot l)

@@ -15,9 +15,9 @@ use Rattle.pool.specs.declared.ListPool.{ListPool}
 use Rattle.pool.specs.Numbers.{_orElse_, handleAt, given, entryNumber, entryNumber₂, needsBlock, needNumber}
 use Rattle.pool.specs.Rules.{Call, fromSlice, isEmpty, len, isValid, get, first, setAt, deepClone, clear, take, push, extend, copyFrom, insert, remove, swapRemove, truncate, growAt, clearPool, lenOf, numberOf, atNumber, takeNumber, growNumber, fromSliceNumber, deepCloneNumber, growAtNumber, copyFromNumber, removeNumber, truncateNumber}
 use Rattle.pool.specs.Facts.{within-limits, else-none, else-assoc}
-use Rattle.sound.specs.Sound.{listAt, Holds}
-use Rattle.sound.specs.Held.{handle-inside}
-use Rattle.sound.specs.Meaning.{not-shared}
+use Rattle.sound.specs.Sound.{listAt, SoundWith}
+use Rattle.sound.specs.SoundBut.{handle-inside}
+use Rattle.sound.specs.CutProperties.{not-shared}
 use Rattle.sound.specs.Changes.{list-here, length-list, length-lists}
 use Rattle.sound.specs.Cleared.{clear-pool-zero}
 
@@ -86,7 +86,7 @@ lengths (truncate slot n) ls = length (listAt ls slot) to min (length (listAt ls
 lengths (growAt slot position count) ls = length (listAt ls slot) to length (listAt ls slot) + count
 lengths clearPool ls = 0 to 0
 
-module _ {st : ListPool} {ws hs : List ℕ} {ls : List (List ℕ)} (P : Holds st ws hs ls) where
+module _ {st : ListPool} {ws hs : List ℕ} {ls : List (List ℕ)} (P : SoundWith st ws hs ls) where
   -- of 1, 2 and 3 there is left 2
   pub entry-is : (slot : ℕ) → entryNumber (st .used) ws hs slot ≡ given 2 (outside ls slot)
   unfolding entryNumber given _orElse_

@@ -14,7 +14,7 @@ use Rattle.sizes.specs.Laws.{size-least}
 use Rattle.pool.specs.declared.ListPool.{ListPool}
 use Rattle.pool.specs.Numbers.{_orElse_, headOf, soundHead, given, badHead, noRoom, roomNumber, needsBlock, needNumber}
 use Rattle.pool.specs.Rules.{Call, fromSlice, isEmpty, len, isValid, get, first, setAt, deepClone, clear, take, push, extend, copyFrom, insert, remove, swapRemove, truncate, growAt, clearPool, numberOf}
-use Rattle.sound.specs.Sound.{Chain, Cut, Holds}
+use Rattle.sound.specs.Sound.{Chain, Cut, SoundWith}
 use Rattle.sound.specs.Refusals.{refusal, lengths, number-is}
 
 -- There is no room for n elements: n is over the longest, and has no class; or the class of n has no free block, and the unused tail is too short.
@@ -105,7 +105,7 @@ abbrev pub NeedsBlock : Call → List (List ℕ) → Type 0
 NeedsBlock call ls = needsBlock (lengths call ls .old) (lengths call ls .new) ≡ true
 
 -- the starts of a sound pool's free blocks, by class: there is but one such table (`cut-unique`)
-abbrev pub freeBlocks : {st : ListPool} {ws hs : List ℕ} {ls : List (List ℕ)} → Holds st ws hs ls → List (List ℕ)
+abbrev pub freeBlocks : {st : ListPool} {ws hs : List ℕ} {ls : List (List ℕ)} → SoundWith st ws hs ls → List (List ℕ)
 freeBlocks P = P .sound .0
 
 -- a number that arguments can be refused with on a sound pool: 2, 4 or 5
@@ -169,7 +169,7 @@ else-cases a b = go (ℕ-discrete a 0)
     go (yes z) = inl (z, rw (eq-eqb a 0 z))
     go (no n) = inr (n, rw (ne-eqb a 0 n))
 
-module _ {st : ListPool} {ws hs : List ℕ} {ls : List (List ℕ)} (P : Holds st ws hs ls) (call : Call) where
+module _ {st : ListPool} {ws hs : List ℕ} {ls : List (List ℕ)} (P : SoundWith st ws hs ls) (call : Call) where
   -- the number of the block for the length that the call gives a list
   block-number : ℕ
   block-number = needNumber st ws (lengths call ls .old) (lengths call ls .new)

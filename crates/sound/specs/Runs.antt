@@ -7,8 +7,8 @@ use Rattle.pool.specs.declared.Part.{Part}
 use Rattle.pool.specs.Numbers.{poolLimit, tableLimit}
 use Rattle.pool.specs.Rules.{Outcome, outcome, part, Call, clearPool, called}
 use Rattle.sound.specs.Cleared.{cleared-holds}
-use Rattle.sound.specs.Move.{write-holds}
-use Rattle.sound.specs.Kept.{Kept, its-lists, kept}
+use Rattle.sound.specs.SetAndTake.{write-holds}
+use Rattle.sound.specs.EveryCall.{SoundAfter, its-lists, call-keeps-sound}
 
 -- the part of the pool that `as_mut_slice` gives of a slot, after a call
 abbrev pub partOf : Outcome → ℕ → Part
@@ -24,9 +24,9 @@ pub data Reached : Outcome → Type 0 where
       → Reached (outcome (o .answer) (set (o .words) (partOf o slot .start + p) x) (o .handles))
 
 -- "any sequence of calls from a cleared pool, each given what the last left, with writes to list elements in between by anybody, ends sound"
-pub reached-sound : {o : Outcome} → Reached o → Kept o
+pub reached-sound : {o : Outcome} → Reached o → SoundAfter o
 reached-sound (start st ws hs pool table) = let H = cleared-holds st ws hs pool table in (H .sound, H .within)
-reached-sound (step call r) = let (s, w) = reached-sound r in kept s w call
+reached-sound (step call r) = let (s, w) = reached-sound r in call-keeps-sound s w call
 reached-sound (write slot p x r before) =
     let (s, w) = reached-sound r in
     let H = write-holds (its-lists s w) slot p x before in

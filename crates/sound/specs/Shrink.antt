@@ -17,36 +17,36 @@ use Rattle.pool.specs.Rules.{lenOf, lastRemoved, clear, remove, swapRemove, tru
 use Rattle.pool.specs.Steps.{Ready, resized}
 use Rattle.pool.specs.Facts.{entry-facts, remove-facts, truncate-facts}
 use Rattle.pool.specs.CallLaws.{last-resized, truncate-resized, truncate-none}
-use Rattle.sound.specs.Sound.{listAt, Holds, Leaves}
-use Rattle.sound.specs.Changes.{Has, Left, has, has-length, has-at, has-part, written, shrunk, emptied}
+use Rattle.sound.specs.Sound.{listAt, SoundWith, LeavesWith}
+use Rattle.sound.specs.Changes.{SoundWithSet, LeavesWithSet, has, has-length, has-at, has-part, written, shrunk, emptied}
 use Rattle.sound.specs.Sequences.{removeAt, swapRemoveAt}
 use Rattle.sound.specs.SequenceLaws.{take-shift}
 
 -- a list gets no more elements than it has: the first of them are left
-fewer : {st : ListPool} {ws hs : List ℕ} {ls : List (List ℕ)} {slot : ℕ} {l : List ℕ} → Has st ws hs ls slot l → (b : ℕ) → Ready st ws hs slot b → b ≤ length l
-    → Left (resized st ws hs slot (handleAt hs slot) (lenOf ws hs slot) b) ls slot (take b l)
+fewer : {st : ListPool} {ws hs : List ℕ} {ls : List (List ℕ)} {slot : ℕ} {l : List ℕ} → SoundWithSet st ws hs ls slot l → (b : ℕ) → Ready st ws hs slot b → b ≤ length l
+    → LeavesWithSet (resized st ws hs slot (handleAt hs slot) (lenOf ws hs slot) b) ls slot (take b l)
 unfolding resized
 fewer L b r h = ⊎-elim (λ z. rw z (emptied L)) (λ p. rw (ne-eqb b 0 (omega arith)) (shrunk L b r p h)) (eq-zero-or-pos b)
 
 -- the last element goes from a list whose elements may have been written since the entry, where the words were ws
-dropped : {st : ListPool} {vs hs : List ℕ} {ls : List (List ℕ)} {slot : ℕ} {l : List ℕ} → Has st vs hs ls slot l → (ws : List ℕ)
+dropped : {st : ListPool} {vs hs : List ℕ} {ls : List (List ℕ)} {slot : ℕ} {l : List ℕ} → SoundWithSet st vs hs ls slot l → (ws : List ℕ)
     → length vs ≡ length ws → length l ≡ lenOf ws hs slot → 0 < length l → Ready st ws hs slot (lenOf ws hs slot - 1)
-    → Left (lastRemoved st vs hs slot (handleAt hs slot) (lenOf ws hs slot)) ls slot (take (length l - 1) l)
+    → LeavesWithSet (lastRemoved st vs hs slot (handleAt hs slot) (lenOf ws hs slot)) ls slot (take (length l - 1) l)
 dropped {st} {vs} {hs} {slot = slot} L ws long k p r =
     let d = has-length L in
     let same : lenOf vs hs slot ≡ lenOf ws hs slot = sym d ∙ k in
     let again : Ready st vs hs slot (lenOf vs hs slot - 1) = record { inside = r .inside; can = rw (long, same) (r .can) } in
     rw (← same, last-resized st vs hs slot (handleAt hs slot) (lenOf vs hs slot) (omega arith), d) (fewer L (lenOf vs hs slot - 1) again (omega arith))
 
-module _ {st : ListPool} {ws hs : List ℕ} {ls : List (List ℕ)} (P : Holds st ws hs ls) where
+module _ {st : ListPool} {ws hs : List ℕ} {ls : List (List ℕ)} (P : SoundWith st ws hs ls) where
   -- "empty"
-  pub clear-holds : (slot : ℕ) → numberOf (clear slot) st ws hs ≡ 0 → Leaves (doneOf (clear slot) st ws hs) (set ls slot [])
+  pub clear-holds : (slot : ℕ) → numberOf (clear slot) st ws hs ≡ 0 → LeavesWith (doneOf (clear slot) st ws hs) (set ls slot [])
   unfolding numberOf doneOf clearDone
   clear-holds slot e = emptied (has slot P (entry-facts (st .used) ws hs slot e .inside)) .holds
 
   -- "remove at"
   pub remove-holds : (slot p : ℕ) → numberOf (remove slot p) st ws hs ≡ 0
-      → Leaves (doneOf (remove slot p) st ws hs) (set ls slot (removeAt p (listAt ls slot)))
+      → LeavesWith (doneOf (remove slot p) st ws hs) (set ls slot (removeAt p (listAt ls slot)))
   unfolding numberOf doneOf removeDone copied
   remove-holds slot p e =
       let (place, r) = remove-facts st ws hs slot p e in
@@ -64,7 +64,7 @@ module _ {st : ListPool} {ws hs : List ℕ} {ls : List (List ℕ)} (P : Holds st
 
   -- "swap with the last and drop"
   pub swap-remove-holds : (slot p : ℕ) → numberOf (swapRemove slot p) st ws hs ≡ 0
-      → Leaves (doneOf (swapRemove slot p) st ws hs) (set ls slot (swapRemoveAt p (listAt ls slot)))
+      → LeavesWith (doneOf (swapRemove slot p) st ws hs) (set ls slot (swapRemoveAt p (listAt ls slot)))
   unfolding numberOf doneOf swapRemoveDone swapRemoveAt
   swap-remove-holds slot p e =
       let (place, r) = remove-facts st ws hs slot p e in
@@ -83,17 +83,17 @@ module _ {st : ListPool} {ws hs : List ℕ} {ls : List (List ℕ)} (P : Holds st
 
   -- "take the first n"
   pub truncate-holds : (slot n : ℕ) → numberOf (truncate slot n) st ws hs ≡ 0
-      → Leaves (doneOf (truncate slot n) st ws hs) (set ls slot (take n (listAt ls slot)))
+      → LeavesWith (doneOf (truncate slot n) st ws hs) (set ls slot (take n (listAt ls slot)))
   unfolding numberOf doneOf
   truncate-holds slot n e = go (decLt n (lenOf ws hs slot)) .holds
     where
       r : Ready st ws hs slot (min (lenOf ws hs slot) n)
       r = truncate-facts st ws hs slot n e
 
-      L : Has st ws hs ls slot (listAt ls slot)
+      L : SoundWithSet st ws hs ls slot (listAt ls slot)
       L = has slot P (r .inside)
 
-      go : Dec (n < lenOf ws hs slot) → Left (truncateDone st ws hs slot n) ls slot (take n (listAt ls slot))
+      go : Dec (n < lenOf ws hs slot) → LeavesWithSet (truncateDone st ws hs slot n) ls slot (take n (listAt ls slot))
       go (yes less) =
           let m : min (lenOf ws hs slot) n ≡ n = omega arith in
           rw (truncate-resized st ws hs slot n less) (fewer L n (rw m at r) (omega (arith, has-length L)))

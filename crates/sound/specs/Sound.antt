@@ -1,5 +1,5 @@
--- What a sound pool is, in the words of paper 01 and of demand 3, and which lists it holds: to be read and believed, as Meant and
--- Sequences are, and the definitions of Meaning, Runs, Room and Refusals. The rest of this crate is proved.
+-- What a sound pool is, in the words of paper 01 and of demand 3, and which lists it holds.
+-- What a reader has to believe is listed in docs/BELIEVE.md. The rest of this crate is proved.
 -- Throughout `st` is the pool's state, `ws` its words, `hs` the table's handles, `fs` the starts of the free blocks, a list for each class.
 use mathlib.Core.Path.{_≡_}
 use mathlib.Core.Bool.{true, cond, _&&_}
@@ -60,12 +60,12 @@ lists ws hs = map (listOf ws) hs
 abbrev pub listAt : List (List ℕ) → ℕ → List ℕ
 listAt ls slot = getD ls slot []
 
--- A sound pool within paper 01's limits that holds the lists ls.
-pub record Holds (st : ListPool) (ws hs : List ℕ) (ls : List (List ℕ)) : Type 0 where
+-- A sound pool within paper 01's limits, with the lists ls in its table.
+pub record SoundWith (st : ListPool) (ws hs : List ℕ) (ls : List (List ℕ)) : Type 0 where
   pub sound : Sound st ws hs
   pub within : Within (st .used) (length ws) (length hs)
   pub are : lists ws hs ≡ ls
 
--- and so after a call
-abbrev pub Leaves : Outcome → List (List ℕ) → Type 0
-Leaves o ls = Holds (o .answer .state) (o .words) (o .handles) ls
+-- A call leaves such a pool.
+abbrev pub LeavesWith : Outcome → List (List ℕ) → Type 0
+LeavesWith o ls = SoundWith (o .answer .state) (o .words) (o .handles) ls

@@ -24,8 +24,8 @@ use Rattle.pool.specs.StepLaws.{can-realloc}
 use Rattle.pool.specs.Facts.{stays}
 use Rattle.sound.specs.Sound.{over, lists}
 use Rattle.sound.specs.Sums.{over-in, over-part}
-use Rattle.sound.specs.Held.{Span, span, spanOver, Held, held-write, run-ext}
-use Rattle.sound.specs.Moves.{held-pop, held-link, held-grow, held-swap, held-apart}
+use Rattle.sound.specs.SoundBut.{Span, span, spanOver, SoundBut, held-write, run-ext}
+use Rattle.sound.specs.HandOver.{held-pop, held-link, held-grow, held-swap, held-apart}
 
 -- a run of stores leaves the words outside of it
 pub getD-sets-other : (ws : List ℕ) (at : ℕ) (vs : List ℕ) (i : ℕ) → over at (length vs) i ≡ 0 → getD (sets ws at vs) i 0 ≡ getD ws i 0
@@ -41,8 +41,8 @@ unfolding copied
 getD-copied-above ws from to n i h l = getD-sets-above ws to (take n (drop from ws)) i (rw length-take-drop l)
 
 -- a run of stores inside the first block that is held
-held-sets : {st : ListPool} {ws hs : List ℕ} {xs : List Span} (b s at : ℕ) (vs : List ℕ) → Held st ws hs (span b s ∷ xs) → b ≤ at → at + length vs ≤ b + s
-    → Held st (sets ws at vs) hs (span b s ∷ xs) × (lists (sets ws at vs) hs ≡ lists ws hs)
+held-sets : {st : ListPool} {ws hs : List ℕ} {xs : List Span} (b s at : ℕ) (vs : List ℕ) → SoundBut st ws hs (span b s ∷ xs) → b ≤ at → at + length vs ≤ b + s
+    → SoundBut st (sets ws at vs) hs (span b s ∷ xs) × (lists (sets ws at vs) hs ≡ lists ws hs)
 unfolding spanOver
 held-sets {ws = ws} b s at vs H p q =
     held-write H (sets ws at vs) (length-sets ws at vs)
@@ -50,27 +50,27 @@ held-sets {ws = ws} b s at vs H p q =
 
 -- a step took the block t, of the class c, and left all lists as they were; blocks xs are held besides
 pub record Took (ws hs : List ℕ) (t : Taken) (c : ℕ) (xs : List Span) : Type 0 where
-  pub held : Held (t .state) (t .words) hs (span (t .block) (sizeOf c) ∷ xs)
+  pub held : SoundBut (t .state) (t .words) hs (span (t .block) (sizeOf c) ∷ xs)
   pub same : lists (t .words) hs ≡ lists ws hs
   pub long : length (t .words) ≡ length ws
 
 -- a step freed the block b of the class c, left all lists as they were and each word outside of it
 pub record Gave (ws hs : List ℕ) (f : Freed) (b c : ℕ) (xs : List Span) : Type 0 where
-  pub held : Held (f .state) (f .words) hs xs
+  pub held : SoundBut (f .state) (f .words) hs xs
   pub same : lists (f .words) hs ≡ lists ws hs
   pub long : length (f .words) ≡ length ws
   pub rest : (i : ℕ) → over b (sizeOf c) i ≡ 0 → getD (f .words) i 0 ≡ getD ws i 0
 
 module _ {st : ListPool} {ws hs : List ℕ} where
   -- words copied to the start of the first block that is held
-  held-copied : {xs : List Span} {s : ℕ} (from b n : ℕ) → Held st ws hs (span b s ∷ xs) → n ≤ s → from + n ≤ length ws
-      → Held st (copied ws from b n) hs (span b s ∷ xs) × (lists (copied ws from b n) hs ≡ lists ws hs)
+  held-copied : {xs : List Span} {s : ℕ} (from b n : ℕ) → SoundBut st ws hs (span b s ∷ xs) → n ≤ s → from + n ≤ length ws
+      → SoundBut st (copied ws from b n) hs (span b s ∷ xs) × (lists (copied ws from b n) hs ≡ lists ws hs)
   unfolding copied
   held-copied {s = s} from b n H l r =
       held-sets b s b (take n (drop from ws)) H (omega arith) (omega (arith, length-take-drop ws from n r))
 
   -- the used words stay as they were
-  pub alloc-took : {xs : List Span} (c : ℕ) → Held st ws hs xs → CanAlloc st (length ws) c
+  pub alloc-took : {xs : List Span} (c : ℕ) → SoundBut st ws hs xs → CanAlloc st (length ws) c
       → Took ws hs (alloc st ws c) c xs × ((i : ℕ) → i < st .used → getD (alloc st ws c .words) i 0 ≡ getD ws i 0)
   unfolding alloc recycled fresh filled
   alloc-took {xs} c H can = go (eq-zero-or-pos (headOf st c))
@@ -87,7 +87,7 @@ module _ {st : ListPool} {ws hs : List ℕ} where
           rw (eq-eqb (headOf st c) 0 z)
           (record { held = W .0; same = W .1; long = length-filled ws (st .used) (sizeOf c) MAX }, λ i l. getD-sets-below ws (st .used) (replicate (sizeOf c) MAX) i l)
 
-  pub free-gave : {xs : List Span} (b c : ℕ) → Held st ws hs (span b (sizeOf c) ∷ xs) → c < classCount → Gave ws hs (free st ws b c) b c xs
+  pub free-gave : {xs : List Span} (b c : ℕ) → SoundBut st ws hs (span b (sizeOf c) ∷ xs) → c < classCount → Gave ws hs (free st ws b c) b c xs
   unfolding free
   free-gave b c H l =
       let s = size-least c in
@@ -106,7 +106,7 @@ module _ {st : ListPool} {ws hs : List ℕ} where
 
 module _ {st : ListPool} {ws hs : List ℕ} where
   -- the first n words of the new block are those of the old one, and the others are as they were when it was taken
-  pub realloc-took : {xs : List Span} (b from to n : ℕ) → Held st ws hs (span b (sizeOf from) ∷ xs) → CanRealloc st (length ws) b from to n
+  pub realloc-took : {xs : List Span} (b from to n : ℕ) → SoundBut st ws hs (span b (sizeOf from) ∷ xs) → CanRealloc st (length ws) b from to n
       → Took ws hs (realloc st ws b from to n) to xs
       × ((j : ℕ) → j < n → getD (realloc st ws b from to n .words) (realloc st ws b from to n .block + j) 0 ≡ getD ws (b + j) 0)
       × ((j : ℕ) → n ≤ j → j < sizeOf to → getD (realloc st ws b from to n .words) (realloc st ws b from to n .block + j) 0 ≡ getD (alloc st ws to .words) (alloc st ws to .block + j) 0)
@@ -139,7 +139,7 @@ module _ {st : ListPool} {ws hs : List ℕ} where
       vs : List ℕ
       vs = copied (a .words) b (a .block) n
 
-      W : Held (a .state) vs hs (span (a .block) (sizeOf to) ∷ span b (sizeOf from) ∷ xs) × (lists vs hs ≡ lists (a .words) hs)
+      W : SoundBut (a .state) vs hs (span (a .block) (sizeOf to) ∷ span b (sizeOf from) ∷ xs) × (lists vs hs ≡ lists (a .words) hs)
       W = held-copied b (a .block) n (A .0 .held) (omega (arith, can .fits)) old
 
       F : Gave vs hs (free (a .state) vs b from) b from (span (a .block) (sizeOf to) ∷ xs)
@@ -161,19 +161,19 @@ pub record Resized (ws hs : List ℕ) (h a b : ℕ) (t : Taken) : Type 0 where
   pub took : Took ws hs t (classOf b) []
   pub elements : take (min a b) (drop (t .block + 1) (t .words)) ≡ take (min a b) (drop h ws)
 
-pub moved-resized : {st : ListPool} {ws hs : List ℕ} (h a b : ℕ) → Held st ws hs (own h a) → CanResize st (length ws) h a b → 0 < b
+pub moved-resized : {st : ListPool} {ws hs : List ℕ} (h a b : ℕ) → SoundBut st ws hs (own h a) → CanResize st (length ws) h a b → 0 < b
     → Resized ws hs h a b (moved st ws h a b)
 unfolding moved
 moved-resized {st} {ws} {hs} h a b H can p = go (needsBlock a b) refl
   where
-    whole : 0 < a → Held st ws hs (span (h - 1) (sizeOf (classOf a)) ∷ [])
+    whole : 0 < a → SoundBut st ws hs (span (h - 1) (sizeOf (classOf a)) ∷ [])
     whole q = rw (ne-eqb a 0 (omega arith)) at H
 
     needed : needsBlock a b ≡ true → (a ≡ 0) ⊎ (0 < a)
         → Resized ws hs h a b (cond (eqb a 0) (alloc st ws (classOf b)) (realloc st ws (h - 1) (classOf a) (classOf b) (min a b + 1)))
     needed e (inl z) =
         let none : min a b ≡ 0 = omega arith in
-        let empty : Held st ws hs [] = rw (eq-eqb a 0 z) at H in
+        let empty : SoundBut st ws hs [] = rw (eq-eqb a 0 z) at H in
         rw (eq-eqb a 0 z) (record { took = alloc-took (classOf b) empty (can .room e) .0; elements = rw none refl })
     needed e (inr q) =
         let list = can .list in

@@ -1,4 +1,4 @@
--- Whose mark is whose: the marks of a pool's blocks are those of its places, each at the first group of the block there.
+-- The mark of every place: the marks of a pool's blocks are those of its places, each at the first group of the block there.
 use mathlib.Core.Path.{_≡_, refl, sym, ap, _∙_}
 use mathlib.Core.List.{List, [], _∷_, List·Memᴰ, List·Memᴰ·head, List·Memᴰ·tail, List·Memᴰ·not-nil, List·Memᴰ·cases-cons, List·Memᴰ·append-cases, Memᴰ·append-left, Memᴰ·append-right}
 use mathlib.Core.Logic.{_≢_, _⊎_, inl, inr}
@@ -10,7 +10,7 @@ use Rattle.pool.specs.declared.ListPool.{ListPool}
 use Rattle.pool.specs.Numbers.{headOf, handleAt}
 use Rattle.pool.specs.Facts.{handle-facts, head-facts}
 use Rattle.sound.specs.Sound.{Chain, Cut}
-use Rattle.sound.specs.Meaning.{Place, live, free, Block, startOf}
+use Rattle.sound.specs.CutProperties.{Place, live, free, Block, startOf}
 use Rattle.audit.specs.Audit.{liveMark, freeMark, groupOf}
 use Rattle.audit.specs.Marks.{Mark, mark}
 use Rattle.audit.specs.Walks.{liveMarks, freeMarks, chainMarks, marksOf}

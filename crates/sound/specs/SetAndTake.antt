@@ -1,4 +1,4 @@
--- The calls that set one element, or move a list to another slot: each leaves a sound pool, and changes the lists of the table as one equation says.
+-- `set` and `take`, which set one element and move a list to another slot: each leaves a sound pool, and changes the lists of the table as one equation says.
 use mathlib.Core.Path.{_≡_, refl, sym, ap, _∙_}
 use mathlib.Core.Bool.{Bool, true, false, cond}
 use mathlib.Core.List.{List, [], _∷_}
@@ -15,14 +15,14 @@ use Rattle.pool.specs.declared.Part.{Part}
 use Rattle.pool.specs.Numbers.{handleAt, entryNumber}
 use Rattle.pool.specs.Rules.{lenOf, part, setAt, take, numberOf, doneOf, takeNumber, setDone, takeDone}
 use Rattle.pool.specs.Facts.{at-facts, given-zero, neither, else-first, else-second, entry-facts, entry-facts₂, handle-facts}
-use Rattle.sound.specs.Sound.{listOf, listAt, Holds, Leaves}
-use Rattle.sound.specs.Held.{Held}
-use Rattle.sound.specs.Moves.{held-out, held-in}
+use Rattle.sound.specs.Sound.{listOf, listAt, SoundWith, LeavesWith}
+use Rattle.sound.specs.SoundBut.{SoundBut}
+use Rattle.sound.specs.HandOver.{held-out, held-in}
 use Rattle.sound.specs.Changes.{lists-set, lists-clear, holds, held, list-of, length-list, has, written}
 
-module _ {st : ListPool} {ws hs : List ℕ} {ls : List (List ℕ)} (P : Holds st ws hs ls) where
+module _ {st : ListPool} {ws hs : List ℕ} {ls : List (List ℕ)} (P : SoundWith st ws hs ls) where
   -- "set one"
-  pub set-holds : (slot p x : ℕ) → numberOf (setAt slot p x) st ws hs ≡ 0 → Leaves (doneOf (setAt slot p x) st ws hs) (set ls slot (set (listAt ls slot) p x))
+  pub set-holds : (slot p x : ℕ) → numberOf (setAt slot p x) st ws hs ≡ 0 → LeavesWith (doneOf (setAt slot p x) st ws hs) (set ls slot (set (listAt ls slot) p x))
   unfolding numberOf doneOf setDone
   set-holds slot p x e =
       let (f, place) = at-facts (st .used) ws hs slot p e in
@@ -31,7 +31,7 @@ module _ {st : ListPool} {ws hs : List ℕ} {ls : List (List ℕ)} (P : Holds st
 
   -- "writing to an element through `as_mut_slice` too": to write a word of the part that it gives is to set one element of the list
   pub write-holds : (slot p x : ℕ) → part st ws hs slot .start + p < part st ws hs slot .end
-      → Holds st (set ws (part st ws hs slot .start + p) x) hs (set ls slot (set (listAt ls slot) p x))
+      → SoundWith st (set ws (part st ws hs slot .start + p) x) hs (set ls slot (set (listAt ls slot) p x))
   unfolding part
   write-holds slot p x = go (eqb (entryNumber (st .used) ws hs slot) 0) refl
     where
@@ -42,20 +42,20 @@ module _ {st : ListPool} {ws hs : List ℕ} {ls : List (List ℕ)} (P : Holds st
       none = record { start = 0; end = 0 }
 
       go : (t : Bool) → eqb (entryNumber (st .used) ws hs slot) 0 ≡ t → cond t here none .start + p < cond t here none .end
-          → Holds st (set ws (cond t here none .start + p) x) hs (set ls slot (set (listAt ls slot) p x))
+          → SoundWith st (set ws (cond t here none .start + p) x) hs (set ls slot (set (listAt ls slot) p x))
       go true e before =
           let f = entry-facts (st .used) ws hs slot (eqb-true _ _ e) in
           written (has slot P (f .inside)) p (x ∷ []) (omega (arith, length-list P slot)) .holds
       go false e before = absurd (omega arith)
 
   -- the block of one slot goes to another, which is empty
-  handed : (slot to : ℕ) → slot < length hs → to < length hs → (slot ≡ to → ⊥) → handleAt hs to ≡ 0 → Held st ws (set (set hs to (handleAt hs slot)) slot 0) []
+  handed : (slot to : ℕ) → slot < length hs → to < length hs → (slot ≡ to → ⊥) → handleAt hs to ≡ 0 → SoundBut st ws (set (set hs to (handleAt hs slot)) slot 0) []
   handed slot to l k q z = go (eq-zero-or-pos (handleAt hs slot))
     where
       h : ℕ
       h = handleAt hs slot
 
-      go : (h ≡ 0) ⊎ (0 < h) → Held st ws (set (set hs to h) slot 0) []
+      go : (h ≡ 0) ⊎ (0 < h) → SoundBut st ws (set (set hs to h) slot 0) []
       go (inl e) =
           let both : set (set hs to h) slot 0 ≡ hs =
           ap (λ (x : ℕ). set (set hs to x) slot 0) (e ∙ sym z)
@@ -70,7 +70,7 @@ module _ {st : ListPool} {ws hs : List ℕ} {ls : List (List ℕ)} (P : Holds st
           rw (back, set-comm hs slot to 0 h q) at I
 
   -- "move"
-  pub take-holds : (slot to : ℕ) → numberOf (take slot to) st ws hs ≡ 0 → Leaves (doneOf (take slot to) st ws hs) (set (set ls to (listAt ls slot)) slot [])
+  pub take-holds : (slot to : ℕ) → numberOf (take slot to) st ws hs ≡ 0 → LeavesWith (doneOf (take slot to) st ws hs) (set (set ls to (listAt ls slot)) slot [])
   unfolding numberOf doneOf takeNumber takeDone
   take-holds slot to e =
       let (f, g) = entry-facts₂ (st .used) ws hs slot to (else-first _ _ e) in

@@ -1,4 +1,4 @@
--- The five moves that hand a block over between the table, the chains, the unused words and the call that holds it.
+-- The five ways in which a block is handed over between the table, the chains, the unused words and the call that holds it.
 use mathlib.Core.Path.{_≡_, refl, ap}
 use mathlib.Core.List.{List, [], _∷_}
 use mathlib.Core.Bool.{true}
@@ -15,7 +15,7 @@ use Rattle.pool.specs.Numbers.{stateOf, headOf, handleAt, soundHandle}
 use Rattle.pool.specs.Facts.{Within, handle-facts, head-facts}
 use Rattle.sound.specs.Sound.{sum, over, liveOver, freeOver, Chain}
 use Rattle.sound.specs.Sums.{over-le, over-add, sum-set}
-use Rattle.sound.specs.Held.{Span, span, spanOver, Spans, Held, handle-sound, head-sound, live-none, live-some, handle-frame, chain-frame}
+use Rattle.sound.specs.SoundBut.{Span, span, spanOver, Spans, SoundBut, handle-sound, head-sound, live-none, live-some, handle-frame, chain-frame}
 
 -- what holds of every place of a list holds of it after one is set; and of two lists
 set-all : (P : ℕ → Type 0) (l : List ℕ) (k a : ℕ) → P a → ((j : ℕ) → P (getD l j 0)) → (j : ℕ) → P (getD (set l k a) j 0)
@@ -39,8 +39,8 @@ within-set hs slot a w = rw length-set w
 
 module _ {st : ListPool} {ws hs : List ℕ} {xs : List Span} where
   -- the block of a slot goes to the call
-  pub held-out : (slot : ℕ) → Held st ws hs xs → slot < length hs → 0 < handleAt hs slot
-      → Held st ws (set hs slot 0) (span (handleAt hs slot - 1) (sizeOf (classOf (getD ws (handleAt hs slot - 1) 0))) ∷ xs)
+  pub held-out : (slot : ℕ) → SoundBut st ws hs xs → slot < length hs → 0 < handleAt hs slot
+      → SoundBut st ws (set hs slot 0) (span (handleAt hs slot - 1) (sizeOf (classOf (getD ws (handleAt hs slot - 1) 0))) ∷ xs)
   unfolding spanOver soundHandle
   held-out slot H l p =
       let f = handle-facts (st .used) ws (handleAt hs slot) (H .handles slot) p in
@@ -57,8 +57,8 @@ module _ {st : ListPool} {ws hs : List ℕ} {xs : List Span} where
       }
 
   -- a held block goes to an empty slot
-  pub held-in : (slot b s : ℕ) → Held st ws hs (span b s ∷ xs) → slot < length hs → handleAt hs slot ≡ 0 → 1 ≤ getD ws b 0 → sizeOf (classOf (getD ws b 0)) ≡ s
-      → Held st ws (set hs slot (b + 1)) xs
+  pub held-in : (slot b s : ℕ) → SoundBut st ws hs (span b s ∷ xs) → slot < length hs → handleAt hs slot ≡ 0 → 1 ≤ getD ws b 0 → sizeOf (classOf (getD ws b 0)) ≡ s
+      → SoundBut st ws (set hs slot (b + 1)) xs
   unfolding spanOver
   held-in slot b s H l e n q =
       let back : b + 1 - 1 ≡ b = add-sub-cancel b 1 in
@@ -83,13 +83,13 @@ module _ {st : ListPool} {ws hs : List ℕ} {xs : List Span} where
       }
 
   -- the first block of a chain goes to the call
-  pub held-pop : (c : ℕ) → Held st ws hs xs → c < classCount → 0 < headOf st c
-      → Held (stateOf (st .used) (set (st .heads) c (getD ws (headOf st c) 0))) ws hs (span (headOf st c - 1) (sizeOf c) ∷ xs)
+  pub held-pop : (c : ℕ) → SoundBut st ws hs xs → c < classCount → 0 < headOf st c
+      → SoundBut (stateOf (st .used) (set (st .heads) c (getD ws (headOf st c) 0))) ws hs (span (headOf st c - 1) (sizeOf c) ∷ xs)
   unfolding freeOver sum spanOver
   held-pop c H l p = go (getD (H .frees) c []) refl (H .chains c)
     where
       go : (bs : List ℕ) → getD (H .frees) c [] ≡ bs → Chain (st .used) ws c (headOf st c) bs
-          → Held (stateOf (st .used) (set (st .heads) c (getD ws (headOf st c) 0))) ws hs (span (headOf st c - 1) (sizeOf c) ∷ xs)
+          → SoundBut (stateOf (st .used) (set (st .heads) c (getD ws (headOf st c) 0))) ws hs (span (headOf st c - 1) (sizeOf c) ∷ xs)
       go [] e C = absurd (omega arith)
       go (b ∷ bs) e C =
           let f = head-facts (st .used) ws c (headOf st c) (C .1) p in
@@ -111,8 +111,8 @@ module _ {st : ListPool} {ws hs : List ℕ} {xs : List Span} where
           }
 
   -- a held block goes to the front of its class's chain
-  pub held-link : (b c : ℕ) → Held st ws hs (span b (sizeOf c) ∷ xs) → c < classCount → getD ws b 0 ≡ 0 → getD ws (b + 1) 0 ≡ headOf st c
-      → Held (stateOf (st .used) (set (st .heads) c (b + 1))) ws hs xs
+  pub held-link : (b c : ℕ) → SoundBut st ws hs (span b (sizeOf c) ∷ xs) → c < classCount → getD ws b 0 ≡ 0 → getD ws (b + 1) 0 ≡ headOf st c
+      → SoundBut (stateOf (st .used) (set (st .heads) c (b + 1))) ws hs xs
   unfolding freeOver sum spanOver
   held-link b c H l z n =
       let back : b + 1 - 1 ≡ b = add-sub-cancel b 1 in
@@ -136,8 +136,8 @@ module _ {st : ListPool} {ws hs : List ℕ} {xs : List Span} where
       }
 
   -- unused words, as many as a block of the class c has, go to the call
-  pub held-grow : (c : ℕ) → Held st ws hs xs → st .used + sizeOf c ≤ length ws
-      → Held (stateOf (st .used + sizeOf c) (st .heads)) ws hs (span (st .used) (sizeOf c) ∷ xs)
+  pub held-grow : (c : ℕ) → SoundBut st ws hs xs → st .used + sizeOf c ≤ length ws
+      → SoundBut (stateOf (st .used + sizeOf c) (st .heads)) ws hs (span (st .used) (sizeOf c) ∷ xs)
   unfolding spanOver
   held-grow c H r =
       record {
@@ -163,7 +163,7 @@ module _ {st : ListPool} {ws hs : List ℕ} {xs : List Span} where
       more (y ∷ ys) o = (o .0, omega arith, more ys (o .2))
 
   -- the blocks that are held change places; and have no word in common
-  pub held-swap : (x y : Span) → Held st ws hs (x ∷ y ∷ xs) → Held st ws hs (y ∷ x ∷ xs)
+  pub held-swap : (x y : Span) → SoundBut st ws hs (x ∷ y ∷ xs) → SoundBut st ws hs (y ∷ x ∷ xs)
   unfolding spanOver
   held-swap x y H =
       record {
@@ -177,6 +177,6 @@ module _ {st : ListPool} {ws hs : List ℕ} {xs : List Span} where
         once = λ i. omega (arith, H .once i);
       }
 
-  pub held-apart : (x y : Span) (i : ℕ) → Held st ws hs (x ∷ y ∷ xs) → 1 ≤ over (x .start) (x .size) i → over (y .start) (y .size) i ≡ 0
+  pub held-apart : (x y : Span) (i : ℕ) → SoundBut st ws hs (x ∷ y ∷ xs) → 1 ≤ over (x .start) (x .size) i → over (y .start) (y .size) i ≡ 0
   unfolding spanOver
   held-apart x y i H h = omega (arith, H .once i, over-le 0 (st .used) i)

@@ -26,26 +26,26 @@ behind st ws hs slot count =
     (plain.take count (drop (handleAt hs slot + n) ws))
 
 -- What a call that answers 0 makes of the lists ls. Only `grow_at` asks what stands behind a list, bs.
-unfoldable pub meant : (ℕ → ℕ → List ℕ) → Call → List (List ℕ) → List (List ℕ)
-meant bs (fromSlice slot xs) ls = set ls slot xs
-meant bs (isEmpty slot) ls = ls
-meant bs (len slot) ls = ls
-meant bs (isValid slot) ls = ls
-meant bs (get slot p) ls = ls
-meant bs (first slot) ls = ls
-meant bs (setAt slot p x) ls = set ls slot (set (listAt ls slot) p x)
-meant bs (deepClone slot to) ls = set ls to (listAt ls slot)
-meant bs (clear slot) ls = set ls slot []
-meant bs (take slot to) ls = set (set ls to (listAt ls slot)) slot []
-meant bs (push slot x) ls = set ls slot (listAt ls slot ++ x ∷ [])
-meant bs (extend slot xs) ls = set ls slot (listAt ls slot ++ xs)
-meant bs (copyFrom slot source start end p) ls = set ls slot (insertAll p (range start end (listAt ls source)) (listAt ls slot))
-meant bs (insert slot p x) ls = set ls slot (insertAll p (x ∷ []) (listAt ls slot))
-meant bs (remove slot p) ls = set ls slot (removeAt p (listAt ls slot))
-meant bs (swapRemove slot p) ls = set ls slot (swapRemoveAt p (listAt ls slot))
-meant bs (truncate slot n) ls = set ls slot (plain.take n (listAt ls slot))
-meant bs (growAt slot p count) ls = set ls slot (openAt p (bs slot count) (listAt ls slot))
-meant bs clearPool ls = replicate (length ls) []
+unfoldable pub listsAfter : (ℕ → ℕ → List ℕ) → Call → List (List ℕ) → List (List ℕ)
+listsAfter bs (fromSlice slot xs) ls = set ls slot xs
+listsAfter bs (isEmpty slot) ls = ls
+listsAfter bs (len slot) ls = ls
+listsAfter bs (isValid slot) ls = ls
+listsAfter bs (get slot p) ls = ls
+listsAfter bs (first slot) ls = ls
+listsAfter bs (setAt slot p x) ls = set ls slot (set (listAt ls slot) p x)
+listsAfter bs (deepClone slot to) ls = set ls to (listAt ls slot)
+listsAfter bs (clear slot) ls = set ls slot []
+listsAfter bs (take slot to) ls = set (set ls to (listAt ls slot)) slot []
+listsAfter bs (push slot x) ls = set ls slot (listAt ls slot ++ x ∷ [])
+listsAfter bs (extend slot xs) ls = set ls slot (listAt ls slot ++ xs)
+listsAfter bs (copyFrom slot source start end p) ls = set ls slot (insertAll p (range start end (listAt ls source)) (listAt ls slot))
+listsAfter bs (insert slot p x) ls = set ls slot (insertAll p (x ∷ []) (listAt ls slot))
+listsAfter bs (remove slot p) ls = set ls slot (removeAt p (listAt ls slot))
+listsAfter bs (swapRemove slot p) ls = set ls slot (swapRemoveAt p (listAt ls slot))
+listsAfter bs (truncate slot n) ls = set ls slot (plain.take n (listAt ls slot))
+listsAfter bs (growAt slot p count) ls = set ls slot (openAt p (bs slot count) (listAt ls slot))
+listsAfter bs clearPool ls = replicate (length ls) []
 
 -- The slots whose lists a call changes.
 abbrev pub Target : Call → ℕ → Type 0

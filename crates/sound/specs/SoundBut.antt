@@ -37,7 +37,7 @@ Spans used [] = Unit {0}
 Spans used (x ∷ xs) = (x .start % 4 ≡ 0) × (x .start + x .size ≤ used) × Spans used xs
 
 -- a pool within the limits that is sound but for the blocks xs
-pub record Held (st : ListPool) (ws hs : List ℕ) (xs : List Span) : Type 0 where
+pub record SoundBut (st : ListPool) (ws hs : List ℕ) (xs : List Span) : Type 0 where
   pub within : Within (st .used) (length ws) (length hs)
   pub frees : List (List ℕ)
   pub heads : length (st .heads) ≡ classCount
@@ -48,7 +48,7 @@ pub record Held (st : ListPool) (ws hs : List ℕ) (xs : List Span) : Type 0 whe
   pub once : (i : ℕ) → sum (λ slot h. liveOver ws i h) hs + sum (freeOver i) frees + spanOver i xs ≡ over 0 (st .used) i
 
 -- a sound pool is one where nothing is held
-pub held-sound : {st : ListPool} {ws hs : List ℕ} → Within (st .used) (length ws) (length hs) → Sound st ws hs → Held st ws hs []
+pub held-sound : {st : ListPool} {ws hs : List ℕ} → Within (st .used) (length ws) (length hs) → Sound st ws hs → SoundBut st ws hs []
 unfolding spanOver
 held-sound w (fs, s) =
     record {
@@ -62,7 +62,7 @@ held-sound w (fs, s) =
       once = λ i. omega (arith, s .once i);
     }
 
-pub sound-held : {st : ListPool} {ws hs : List ℕ} → Held st ws hs [] → Sound st ws hs
+pub sound-held : {st : ListPool} {ws hs : List ℕ} → SoundBut st ws hs [] → Sound st ws hs
 unfolding spanOver
 sound-held H = (
   H .frees,
@@ -190,7 +190,7 @@ map-ext : (f g : ℕ → List ℕ) (l : List ℕ) → ((k : ℕ) → k < length 
 map-ext f g [] h = refl
 map-ext f g (x ∷ xs) h = cc (h 0 (omega arith), map-ext f g xs (λ k p. h (suc k) (omega arith)))
 
-module _ {st : ListPool} {ws hs : List ℕ} {xs : List Span} (H : Held st ws hs xs) where
+module _ {st : ListPool} {ws hs : List ℕ} {xs : List Span} (H : SoundBut st ws hs xs) where
   -- a word that one or more blocks of the table or the chains are over is used, and in no held block
   own : (i n : ℕ) → 1 ≤ n → n ≤ sum (λ slot h. liveOver ws i h) hs + sum (freeOver i) (H .frees) → (i < st .used) × (spanOver i xs ≡ 0)
   own i n p l =
@@ -214,7 +214,7 @@ module _ {st : ListPool} {ws hs : List ℕ} {xs : List Span} (H : Held st ws hs 
       go (no q) = absurd (omega (arith, ap (freeOver i c) (List·getD-eq-default (H .frees) [] {n = c} (omega arith))))
 
   -- THE FRAME: words that are the same in all used words outside of the held blocks
-  pub held-write : (vs : List ℕ) → length vs ≡ length ws → ((i : ℕ) → i < st .used → spanOver i xs ≡ 0 → getD vs i 0 ≡ getD ws i 0) → Held st vs hs xs × (lists vs hs ≡ lists ws hs)
+  pub held-write : (vs : List ℕ) → length vs ≡ length ws → ((i : ℕ) → i < st .used → spanOver i xs ≡ 0 → getD vs i 0 ≡ getD ws i 0) → SoundBut st vs hs xs × (lists vs hs ≡ lists ws hs)
   unfolding lists
   held-write vs l same = (
     record {

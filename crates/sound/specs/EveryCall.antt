@@ -11,18 +11,18 @@ use lib.Dec.{eqb}
 use Rattle.pool.specs.declared.ListPool.{ListPool}
 use Rattle.pool.specs.Rules.{Outcome, refused, isEmptyDone, lenDone, isValidDone, getDone, Call, fromSlice, isEmpty, len, isValid, get, first, setAt, deepClone, clear, take, push, extend, copyFrom, insert, remove, swapRemove, truncate, growAt, clearPool, numberOf, doneOf, unless, called}
 use Rattle.pool.specs.Facts.{Within}
-use Rattle.sound.specs.Sound.{Sound, lists, listAt, Holds, Leaves}
-use Rattle.sound.specs.Meant.{behind, meant, Target}
+use Rattle.sound.specs.Sound.{Sound, lists, listAt, SoundWith, LeavesWith}
+use Rattle.sound.specs.ListEffects.{behind, listsAfter, Target}
 use Rattle.sound.specs.Changes.{length-lists}
 use Rattle.sound.specs.Grow.{push-holds, extend-holds, from-slice-holds, insert-holds, grow-at-holds}
 use Rattle.sound.specs.Shrink.{clear-holds, remove-holds, swap-remove-holds, truncate-holds}
 use Rattle.sound.specs.Copy.{deep-clone-holds, copy-from-holds}
-use Rattle.sound.specs.Move.{set-holds, take-holds}
+use Rattle.sound.specs.SetAndTake.{set-holds, take-holds}
 use Rattle.sound.specs.Cleared.{clear-pool-holds}
 
-module _ {st : ListPool} {ws hs : List ℕ} {ls : List (List ℕ)} (P : Holds st ws hs ls) where
-  done-holds : (call : Call) → numberOf call st ws hs ≡ 0 → Leaves (doneOf call st ws hs) (meant (behind st ws hs) call ls)
-  unfolding meant doneOf isEmptyDone lenDone isValidDone getDone
+module _ {st : ListPool} {ws hs : List ℕ} {ls : List (List ℕ)} (P : SoundWith st ws hs ls) where
+  done-holds : (call : Call) → numberOf call st ws hs ≡ 0 → LeavesWith (doneOf call st ws hs) (listsAfter (behind st ws hs) call ls)
+  unfolding listsAfter doneOf isEmptyDone lenDone isValidDone getDone
   done-holds (fromSlice slot xs) e = from-slice-holds P slot xs e
   done-holds (isEmpty slot) e = P
   done-holds (len slot) e = P
@@ -45,25 +45,25 @@ module _ {st : ListPool} {ws hs : List ℕ} {ls : List (List ℕ)} (P : Holds st
 
   -- a call is done, or it is refused and changes nothing
   done-or-refused : (call : Call)
-      → Leaves (called call st ws hs) (meant (behind st ws hs) call ls)
-      ⊎ ((called call st ws hs .answer .number ≡ 0 → ⊥) × Leaves (called call st ws hs) ls)
+      → LeavesWith (called call st ws hs) (listsAfter (behind st ws hs) call ls)
+      ⊎ ((called call st ws hs .answer .number ≡ 0 → ⊥) × LeavesWith (called call st ws hs) ls)
   unfolding called unless
   done-or-refused call = go (eqb (numberOf call st ws hs) 0) refl
     where
       after : Bool → Outcome
       after t = cond t (doneOf call st ws hs) (refused st ws hs (numberOf call st ws hs))
 
-      go : (t : Bool) → eqb (numberOf call st ws hs) 0 ≡ t → Leaves (after t) (meant (behind st ws hs) call ls) ⊎ ((after t .answer .number ≡ 0 → ⊥) × Leaves (after t) ls)
+      go : (t : Bool) → eqb (numberOf call st ws hs) 0 ≡ t → LeavesWith (after t) (listsAfter (behind st ws hs) call ls) ⊎ ((after t .answer .number ≡ 0 → ⊥) × LeavesWith (after t) ls)
       go true q = inl (done-holds call (eqb-true _ _ q))
       go false q = inr (eqb-false _ _ q, P)
 
   -- "from a sound state a call that answers 0 changes the lists it names as plain sequences change": one equation over the table of lists
-  pub lists-changed : (call : Call) → called call st ws hs .answer .number ≡ 0 → Leaves (called call st ws hs) (meant (behind st ws hs) call ls)
+  pub lists-changed : (call : Call) → called call st ws hs .answer .number ≡ 0 → LeavesWith (called call st ws hs) (listsAfter (behind st ws hs) call ls)
   lists-changed call e = ⊎-elim (λ R. R) (λ R. absurd (R .0 e)) (done-or-refused call)
 
 -- where a call does not change the list in a slot
-other : (bs : ℕ → ℕ → List ℕ) (call : Call) (ls : List (List ℕ)) (k : ℕ) → (Target call k → ⊥) → listAt (meant bs call ls) k ≡ listAt ls k
-unfolding meant
+other : (bs : ℕ → ℕ → List ℕ) (call : Call) (ls : List (List ℕ)) (k : ℕ) → (Target call k → ⊥) → listAt (listsAfter bs call ls) k ≡ listAt ls k
+unfolding listsAfter
 other bs (fromSlice slot xs) ls k q = getD-set-other ls slot k _ [] q
 other bs (isEmpty slot) ls k q = refl
 other bs (len slot) ls k q = refl
@@ -86,17 +86,17 @@ other bs (growAt slot p count) ls k q = getD-set-other ls slot k _ [] q
 other bs clearPool ls k q = absurd (q tt)
 
 -- a sound pool within paper 01's limits, after a call
-abbrev pub Kept : Outcome → Type 0
-Kept o = Sound (o .answer .state) (o .words) (o .handles) × Within (o .answer .state .used) (length (o .words)) (length (o .handles))
+abbrev pub SoundAfter : Outcome → Type 0
+SoundAfter o = Sound (o .answer .state) (o .words) (o .handles) × Within (o .answer .state .used) (length (o .words)) (length (o .handles))
 
 module _ {st : ListPool} {ws hs : List ℕ} (s : Sound st ws hs) (w : Within (st .used) (length ws) (length hs)) where
   -- a sound pool holds its lists
-  pub its-lists : Holds st ws hs (lists ws hs)
+  pub its-lists : SoundWith st ws hs (lists ws hs)
   its-lists = record { sound = s; within = w; are = refl }
 
   -- "from a sound pool within 01's limits every call of 01 (all of them; refusals too ..) leaves a sound pool"
-  pub kept : (call : Call) → Kept (called call st ws hs)
-  kept call = ⊎-elim (λ R. (R .sound, R .within)) (λ R. (R .1 .sound, R .1 .within)) (done-or-refused its-lists call)
+  pub call-keeps-sound : (call : Call) → SoundAfter (called call st ws hs)
+  call-keeps-sound call = ⊎-elim (λ R. (R .sound, R .within)) (λ R. (R .1 .sound, R .1 .within)) (done-or-refused its-lists call)
 
   -- "and no other list": a call, done or refused, leaves the list in every slot that is no target of it
   pub untouched : (call : Call) (slot : ℕ) → (Target call slot → ⊥)

@@ -19,7 +19,7 @@ use Rattle.pool.specs.declared.ListPool.{ListPool}
 use Rattle.pool.specs.Numbers.{headOf, handleAt, lengthAt, soundHandle}
 use Rattle.pool.specs.Rules.{lenOf}
 use Rattle.pool.specs.Facts.{handle-facts, head-facts, list-at}
-use Rattle.sound.specs.Sound.{sum, over, liveOver, freeOver, Chain, Cut, Sound, listOf, lists, Holds}
+use Rattle.sound.specs.Sound.{sum, over, liveOver, freeOver, Chain, Cut, Sound, listOf, lists, SoundWith}
 use Rattle.sound.specs.Sums.{over-in, over-pos, over-le, over-right, sum-ge, sum-ge-two, sum-cong, sum-pos}
 use Rattle.sound.specs.Totals.{upto, upto-zero, upto-cong, upto-add, upto-sum, upto-over}
 
@@ -271,7 +271,7 @@ sum-map f g [] = refl
 sum-map f g (x ∷ l) = omega (arith, sum-map f g l)
 
 -- Used is at least the sizes of the live blocks, which the lengths of the lists decide: no sound pool with these lists uses fewer words.
-pub lists-at-most : {st : ListPool} {ws hs : List ℕ} {ls : List (List ℕ)} → Holds st ws hs ls → sum (λ slot l. blockFor (length l)) ls ≤ st .used
+pub lists-at-most : {st : ListPool} {ws hs : List ℕ} {ls : List (List ℕ)} → SoundWith st ws hs ls → sum (λ slot l. blockFor (length l)) ls ≤ st .used
 unfolding lists listOf
 lists-at-most {st} {ws} {hs} P =
     let C = P .sound .1 in
