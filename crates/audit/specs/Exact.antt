@@ -15,12 +15,11 @@ use Rattle.words.specs.RunLaws.{length-filled}
 use Rattle.pool.specs.declared.ListPool.{ListPool}
 use Rattle.pool.specs.declared.Answer.{Answer}
 use Rattle.pool.specs.Numbers.{poolLimit, tableLimit, stateOf, handleAt, overLimit}
-use Rattle.pool.specs.Rules.{Outcome, answer, lenOf}
+use Rattle.pool.specs.Rules.{answer, lenOf}
 use Rattle.pool.specs.Facts.{Within, within-limits}
 use Rattle.sound.specs.Sound.{Cut, Sound}
 use Rattle.sound.specs.CutProperties.{Place, live, free, Block, startOf, wordsOf, Lies, OnChain, word-in-one, word-in-block, word-in-none, cut-unique}
 use Rattle.sound.specs.Cleared.{cleared-sound}
-use Rattle.sound.specs.Runs.{Reached, reached-sound}
 use Rattle.audit.specs.Audit.{groupOf, Audited, audited, audit}
 use Rattle.audit.specs.Marks.{made-length, made-past, made-has, made-from}
 use Rattle.audit.specs.Walks.{marksOf, Accepted, accepted-says}
@@ -287,10 +286,3 @@ pub audit-determined : (st : ListPool) (ws hs map : List ℕ) {r r′ : Answer} 
 audit-determined st ws hs map e e′ =
     let same = e ∙ sym e′ in
     (ap (λ (a : Audited). a .answer) same, ap (λ (a : Audited). a .map) same)
-
--- "from a cleared pool any sequence of calls ends accepted": with writes to list elements in between by anybody, and given map enough
-pub reached-accepted : {o : Outcome} → Reached o → (map : List ℕ) → o .answer .state .used / 4 ≤ length map
-    → audit (o .answer .state) (o .words) (o .handles) map .answer .number ≡ 0
-reached-accepted {o} r map room =
-    let (s, w) = reached-sound r in
-    audit-exact (o .answer .state) (o .words) (o .handles) map w (s .1 .heads) room .1 s

@@ -1,5 +1,5 @@
--- The insurer's theorem: if the audit answers 0, then every element that a slot's list reports lies in a block that belongs to that slot
--- and to no other slot and no chain.
+-- The insurer's theorem: if the audit answers 0, then what a slot's list counts and reports lies in a block that belongs to that slot and to no
+-- other slot and no chain.
 use mathlib.Core.Path.{_≡_}
 use mathlib.Core.List.{List}
 use mathlib.Core.Logic.{_≢_}
@@ -10,14 +10,14 @@ use Rattle.sizes.specs.Class.{classCount}
 use Rattle.sizes.specs.Laws.{class-holds}
 use Rattle.pool.specs.declared.ListPool.{ListPool}
 use Rattle.pool.specs.Numbers.{handleAt}
-use Rattle.pool.specs.Rules.{lenOf, get, done, called}
+use Rattle.pool.specs.Rules.{lenOf, len, get, done, called}
 use Rattle.pool.specs.Facts.{Within, list-at}
-use Rattle.sound.specs.Sound.{Cut}
+use Rattle.sound.specs.Sound.{Cut, lists, listAt}
 use Rattle.sound.specs.SoundBut.{handle-inside}
 use Rattle.sound.specs.CutProperties.{live, free, Lies, blocks-apart}
 use Rattle.sound.specs.Changes.{list-element, length-list}
 use Rattle.sound.specs.EveryCall.{its-lists}
-use Rattle.sound.specs.Reading.{get-reads}
+use Rattle.sound.specs.Reading.{len-reads, get-reads}
 use Rattle.audit.specs.Audit.{audit}
 use Rattle.audit.specs.Exact.{audit-zero}
 
@@ -37,28 +37,33 @@ element-lies {st} {ws} {hs} W C slot p l =
     let fits = class-holds (lenOf ws hs slot) (omega arith) in
     record { block = (handle-inside hs slot some, λ z. omega arith); from = omega arith; to = omega arith }
 
--- "If the audit answers 0, then every element that a slot's list reports lies in a block that belongs to that slot and to no other slot and no chain":
--- there is a way to cut the used words into live and free blocks, by `cut-unique` only one, and in it this holds of the word of every position
--- below every list's length.
-pub elements-belong : (st : ListPool) (ws hs map : List ℕ) → length (st .heads) ≡ classCount → audit st ws hs map .answer .number ≡ 0
-    → (fs : List (List ℕ)) × Cut st ws hs fs × ((slot p : ℕ) → p < lenOf ws hs slot → Belongs ws hs fs slot (handleAt hs slot + p))
-elements-belong st ws hs map n z =
-    let (W, room, (fs, C)) = audit-zero st ws hs map n .0 z in (
+-- The insurer's question, as a theorem. If the audit answers 0, then there is a way to cut the used words into live and free blocks, by `cut-unique` only
+-- one, and in it for every slot of the table `len` answers a count n, and for each of the n positions p `get` answers the word at handle + p, which
+-- belongs to that slot: n different words, in the block of that slot, and in that of no other slot and of no chain.
+pub count-belongs : (st : ListPool) (ws hs map : List ℕ) → length (st .heads) ≡ classCount → audit st ws hs map .answer .number ≡ 0
+    → (fs : List (List ℕ)) × Cut st ws hs fs
+    × ((slot : ℕ) → slot < length hs
+    → (n : ℕ) × (called (len slot) st ws hs ≡ done n st ws hs)
+    × ((p : ℕ) → p < n
+    → (called (get slot p) st ws hs ≡ done (getD ws (handleAt hs slot + p) 0) st ws hs)
+    × Belongs ws hs fs slot (handleAt hs slot + p)))
+count-belongs st ws hs map heads zero =
+    let (W, room, (fs, C)) = audit-zero st ws hs map heads .0 zero in
+    let H = its-lists (fs, C) W in (
       fs,
       C,
-      λ slot p l.
-          let own = element-lies W C slot p l in
-          record {
-            own = own;
-            no-other = λ other ne M. blocks-apart C (live other) (live slot) (λ e. ne (cc)) (handleAt hs slot + p) M own;
-            no-chain = λ c k M. blocks-apart C (free c k) (live slot) (λ e. let z : _≡_ {A = ℕ} 0 1 = cc in omega arith) (handleAt hs slot + p) M own;
-          },
+      λ slot b. (
+        length (listAt (lists ws hs) slot),
+        len-reads H slot b,
+        λ p l.
+            let inside : p < lenOf ws hs slot = omega (arith, length-list H slot) in
+            let own = element-lies W C slot p inside in (
+              rw (list-element H slot p inside) (get-reads H slot p b l),
+              record {
+                own = own;
+                no-other = λ other ne M. blocks-apart C (live other) (live slot) (λ e. ne (cc)) (handleAt hs slot + p) M own;
+                no-chain = λ c k M. blocks-apart C (free c k) (live slot) (λ e. let z : _≡_ {A = ℕ} 0 1 = cc in omega arith) (handleAt hs slot + p) M own;
+              },
+            ),
+      ),
     )
-
--- And what the list reports is that word: `get` gives it at each of these positions.
-pub element-reported : (st : ListPool) (ws hs map : List ℕ) → length (st .heads) ≡ classCount → audit st ws hs map .answer .number ≡ 0
-    → (slot p : ℕ) → slot < length hs → p < lenOf ws hs slot → called (get slot p) st ws hs ≡ done (getD ws (handleAt hs slot + p) 0) st ws hs
-element-reported st ws hs map n z slot p b l =
-    let (W, room, S) = audit-zero st ws hs map n .0 z in
-    let H = its-lists S W in
-    rw (list-element H slot p l) (get-reads H slot p b (omega (arith, length-list H slot)))

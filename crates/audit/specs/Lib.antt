@@ -3,6 +3,7 @@ pub mod Rows
 pub mod Sheet
 pub mod Exact
 pub mod Insurer
+pub mod Runs
 pub mod Passes
 pub mod Marks
 pub mod Sweep

@@ -3,7 +3,6 @@ pub mod CutProperties
 pub mod Sequences
 pub mod ListEffects
 pub mod EveryCall
-pub mod Runs
 pub mod Refusals
 pub mod Room
 pub mod Reading
