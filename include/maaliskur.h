@@ -16,7 +16,9 @@
  *     }
  *
  * Every call answers on every input: any state, words, handles, slots, positions, counts and elements. It is done, or
- * refused with a number, and then it has changed nothing. That, and what each call writes, is proved of the functions
+ * refused with a number, and then it has changed nothing, but for one case: an audit that is refused with 9 has cleared
+ * the first used / 4 words of its map. (Used 4, the words 0, 0, 4294967295, 4294967295, heads and handles 0, and the
+ * map 5, 6: it answers 9, and the map is 0, 6.) That, and what each call writes, is proved of the functions
  * behind this header. Not proved, and the caller's to see to:
  *
  * - A pointer is not null, also where its length is 0, is aligned as uint32_t is, and has as many words behind it as

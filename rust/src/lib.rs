@@ -3,7 +3,8 @@
 //! Small lists live side by side in one slice of words, the pool; a second slice, the table, has a
 //! handle for each list, and a list is named by its slot in the table. Both slices are the
 //! caller's: nothing is allocated, and nothing grows. Where a call cannot be done it is refused,
-//! says why, and has changed nothing.
+//! says why, and has changed nothing; only an audit that finds the pool not sound has cleared the
+//! first used / 4 words of its map.
 //!
 //! ```
 //! use maaliskur::{Lists, Refusal};
@@ -32,6 +33,17 @@
 //! lists.audit(&mut map)?;
 //! assert_eq!(map, [3, 5, 5, 5]);
 //! # Ok::<(), Refusal>(())
+//! ```
+//!
+//! A block that belongs to no list and is on no chain: the audit is refused, and the map 5, 6 is
+//! then 0, 6.
+//!
+//! ```
+//! # use maaliskur::{Lists, Refusal, State};
+//! let (mut pool, mut handles, mut map) = ([0, 0, u32::MAX, u32::MAX], [0; 1], [5, 6]);
+//! let lists = Lists::resume(State { used: 4, heads: [0; 15] }, &mut pool, &mut handles);
+//! assert_eq!(lists.audit(&mut map), Err(Refusal::NotSound));
+//! assert_eq!(map, [0, 6]);
 //! ```
 //!
 //! To link, the crate needs the archive: `rt staticlib maaliskur` writes it to this repository's

@@ -1,20 +1,25 @@
-# Checks the documents. It is given, each behind an assignment to `kind`: the index (what declared.awk lists, the files and programs
-# there are, and lines of the specs), paper 01, docs/PROVED.md, docs/ANSWER.md, and the pages of which only links and commands are checked.
-# A check that fails prints FILE:LINE: and what is missing. The last line is 'N passed, M failed'.
+# Checks the documents. It is given, each behind an assignment to `kind`: the index (what declared.awk and rests.awk list, the files and programs there
+# are, and lines of the specs), paper 01, docs/DEMANDS.md, docs/PROVED.md, docs/ANSWER.md, docs/BELIEVE.md, and the pages of which only links and commands
+# are checked. A check that fails prints FILE:LINE: and what is missing. The last line is 'N passed, M failed'.
 
 BEGIN { FS = "\t" }
 
-FNR == 1 { table = 0; fence = 0; if (kind != "index") slugs() }
+FNR == 1 { table = 0; fence = 0; section = ""; if (kind != "index") slugs() }
 
 kind == "index" { index_line(); next }
 kind == "paper" { paper_line(); next }
+kind == "demands" { demand_line() }
+/^## / { section = substr($0, 4) }
 kind == "proved" { quotations(); rows() }
 kind == "answer" { tokens($0, "", 0); statement() }
+kind == "believe" { believed_line() }
 kind != "index" && kind != "paper" { links(); if (kind != "proved") commands() }
 
 END {
     functions()
     edits()
+    lending()
+    belief()
     sentences()
     print passed " passed, " failed + 0 " failed"
     exit failed > 0
@@ -40,6 +45,10 @@ function index_line() {
     else if ($1 == "test") is_test[$2] = 1
     else if ($1 == "line") is_line[$2] = 1
     else if ($1 == "antt") { if (antt[$2] != "pub") antt[$2] = $3 }
+    else if ($1 == "text") wording[$2, $3] = $4
+    else if ($1 == "kind") { if ($3 == "definition") is_definition[$2] = 1 }
+    else if ($1 == "says" || $1 == "made") rests[$2, $1, ++edges[$2, $1]] = $3
+    else if ($1 == "kit") kit[$2, $4, ++kits[$2, $4]] = $3
     else if ($1 == "rattle") {
         rattle[$2] = $6
         if ($3 == "pub" && $6 ~ /^fn/ && $6 !~ / again/) public[$2] = $4 ":" $5
@@ -90,9 +99,10 @@ function tokens(text, column, place,    words, n, i, found) {
     for (i = 2; i <= n; i += 2) {
         if (citation(words[i], column)) {
             found++
+            if (column != "Tried or tested by" && (kind == "answer" || kind == "proved" && section == "The demands")) root[words[i]] = here()
             if (place > 0) {
                 cited[words[i]] = 1
-                if (column == "Call") called[words[i]] = 1
+                if (column == "Call") called[words[i]] = root[words[i]] = here()
             }
         } else if (place > 1) check(0, here(), "`" words[i] "` is no citation")
     }
@@ -133,8 +143,21 @@ function rows(    text, cells, n, i, found) {
 
 # QUOTATIONS, AND THE SENTENCES OF PAPER 01
 
-# Every text between quotation marks is paper 01's, in pieces where words are left out.
-function quotations(    words, parts, n, m, i, j) {
+# Every text between quotation marks is paper 01's, and in the section on the demands that of the demand that the row is of; in pieces where words are left
+# out. A row of the section on the numbers begins with its number, and its quotations are that number's too.
+function quotations(    words, parts, n, m, i, j, of, source) {
+    of = ""
+    source = paper
+    if (section == "The demands") {
+        of = $0
+        of = sub(/^\| /, "", of) && sub(/\. .*/, "", of) ? "demand " of : "demand"
+        source = demand[of]
+    } else if (section == "Numbers that come back" && $0 ~ /^\| [0-9]+ "/) {
+        of = $0
+        sub(/^\| /, "", of)
+        sub(/ .*/, "", of)
+        of = "number " of
+    }
     n = split($0, words, "\"")
     if (n && n % 2 == 0) check(0, here(), "an odd number of quotation marks")
     for (i = 2; i <= n; i += 2) {
@@ -142,33 +165,58 @@ function quotations(    words, parts, n, m, i, j) {
         for (j = 1; j <= m; j++) {
             gsub(/^[ ,]+| +$/, "", parts[j])
             if (parts[j] == "") continue
-            check(index(paper, parts[j]) > 0, here(), "paper 01 has no \"" parts[j] "\"")
-            quoted[++quotes] = parts[j]
+            check(index(source, parts[j]) > 0, here(), (of ~ /^demand/ ? of : "paper 01") " has no \"" parts[j] "\"")
+            if (of !~ /^demand/) quote(parts[j], "")
+            if (of != "") quote(parts[j], of)
         }
     }
 }
 
+function quote(text, of) {
+    quoted[++quotes] = text
+    quoted_of[quotes] = of
+}
+
 # A line of the paper is a paragraph, a rule or a row. Those for a later request are marked (02).
-function paper_line(    line) {
+function paper_line(    line, number) {
     line = $0
     if (line == "" || line ~ /^#/ || line ~ /^\|---/ || line ~ /\(02\):/) return
     if (line ~ /^\| No\./) {
         paper = paper line
         return
     }
+    number = line ~ /^\| [0-9]+ \| / ? "number " substr(line, 3, index(substr(line, 3), " ") - 1) : ""
     sub(/^- |^[0-9]+\. |^\| [0-9]+ \| /, "", line)
     sub(/ \|$/, "", line)
     paper = paper "\n" line
-    block[++blocks] = line
-    block_line[blocks] = FNR
+    to_quote(line, "")
+    if (number != "") to_quote(line, number)
 }
 
-# Of each sentence, up to a stop or semicolon, at least half is quoted.
+# A numbered demand.
+function demand_line(    line, of) {
+    line = $0
+    if (line !~ /^[0-9]+\. /) return
+    of = "demand " substr(line, 1, index(line, ".") - 1)
+    sub(/^[0-9]+\. /, "", line)
+    demand[of] = line
+    to_quote(line, of)
+}
+
+# A text that rows have to quote: all rows (paper 01), those of a demand, or those of a number.
+function to_quote(text, of) {
+    block[++blocks] = text
+    block_of[blocks] = of
+    block_place[blocks] = here()
+}
+
+# Of each sentence, up to a stop or semicolon, at least half is quoted; of a demand's nine tenths.
 function sentences(    b, i, j, at, from, size, text, mark, start, covered, all, inside) {
     for (b = 1; b <= blocks; b++) {
         size = length(block[b])
         split("", mark)
         for (i = 1; i <= quotes; i++) {
+            if (quoted_of[i] != block_of[b]) continue
             from = 0
             while ((at = index(substr(block[b], from + 1), quoted[i])) > 0) {
                 from += at
@@ -184,7 +232,8 @@ function sentences(    b, i, j, at, from, size, text, mark, start, covered, all,
             if (text ~ /^\[/) inside = 1
             if (text ~ /^\]/) inside = 0
             if ((text == ". " || text == "; ") && !inside || i == size) {
-                check(2 * covered >= all, "docs/01-scope.md:" block_line[b], "no row has the sentence: " substr(block[b], start, i - start + 1))
+                check(block_of[b] ~ /^demand/ ? 10 * covered >= 9 * all : 2 * covered >= all, block_place[b],
+                    "no row " (block_of[b] == "" ? "" : "of docs/PROVED.md on " block_of[b] " ") "has the sentence: " substr(block[b], start, i - start + 1))
                 start = i + 1
                 covered = all = 0
             }
@@ -212,6 +261,73 @@ function is_called(name) { return (name in called) || (typed[public[name]] in ca
 
 function edits(    file) {
     for (file in is_file) if (file ~ /\/must-fail\//) check(file in cited, file ":1", "no row of docs/PROVED.md has this edit")
+}
+
+# AS_MUT_SLICE
+
+# A check of text: the contract of as_mut_slice says nothing of the words beside the part, so its body is held to these four lines, the first of which
+# lends the pool to be read only.
+function lending(    place) {
+    place = public["pool::writing::as_mut_slice"]
+    check(wording["pool::writing::as_mut_slice", "body"] == "let part = self.part(pool, handles, slot); let start = part.start; let end = part.end; &mut pool[start..end]",
+        place, "the body of as_mut_slice is not the four lines that find its part and lend it")
+    check(wording["pool::reading::part", "signature"] == "pub fn part(self, pool: &[u32], handles: &[u32], slot: usize) -> Part",
+        public["pool::reading::part"], "part, by which as_mut_slice finds its part, is not lent the pool to be read only")
+}
+
+# WHAT HAS TO BE BELIEVED
+
+# docs/BELIEVE.md: the first column of its tables is the list; the line that begins with "Of the kit's library" names what is used of that.
+function believed_line(    cells, words, n, i) {
+    if ($0 ~ /^Of the kit's library/ || kit_lines && $0 != "") {
+        kit_lines = here()
+        n = split($0, words, "`")
+        for (i = 2; i <= n; i += 2) kit_named[words[i]] = here()
+        return
+    }
+    kit_lines = ""
+    if ($0 !~ /^\|/) {
+        table = 0
+        tokens($0, "", 0)
+        return
+    }
+    if (++table <= 2) return
+    split($0, cells, "|")
+    n = split(cells[2], words, "`")
+    check(n > 2, here(), "a row that lists nothing")
+    for (i = 2; i <= n; i += 2) {
+        check(citation(words[i], ""), here(), "`" words[i] "` is no citation")
+        check(!(words[i] in believed), here(), words[i] " is listed twice")
+        believed[words[i]] = here()
+    }
+}
+
+# The list has just the definitions that are reached from the statements that docs/ANSWER.md and the demands' rows of docs/PROVED.md cite, and from the
+# contracts of the calls. (A theorem's proof is not followed, nor a name that is cited as tried or tested by.)
+function belief(    name, i) {
+    for (name in root) {
+        if (name in is_definition) reach(name, name)
+        else follow(name, "says")
+    }
+    for (i = 1; i <= reached; i++) {
+        follow(queue[i], "says")
+        follow(queue[i], "made")
+    }
+    for (i = 1; i <= reached; i++) check(queue[i] in believed, "docs/BELIEVE.md:1", "no row has " queue[i] ", on which " reason[queue[i]] " rests")
+    for (name in believed) check(name in reason, believed[name], "nothing that the pages cite rests on " name)
+    for (name in kit_used) check(name in kit_named, "docs/BELIEVE.md:1", "the kit's " name " is not named, which " kit_used[name] " uses")
+    for (name in kit_named) check(name in kit_used, kit_named[name], "no definition here uses the kit's " name)
+}
+
+function follow(name, what,    i) {
+    for (i = 1; i <= edges[name, what]; i++) reach(rests[name, what, i], name)
+    for (i = 1; i <= kits[name, what]; i++) if (!(kit[name, what, i] in kit_used)) kit_used[kit[name, what, i]] = name
+}
+
+function reach(name, from) {
+    if (name in reason) return
+    reason[name] = from
+    queue[++reached] = name
 }
 
 # LINKS AND COMMANDS

@@ -4,9 +4,14 @@
 #     rattle  CITATION  pub|private  FILE  LINE  KIND   what a crate's source declares, cited as crate::file::name or crate::name
 #     test    PATH::NAME                                a function of a test in Rust or C
 #
+#     text    CITATION  signature|body  TEXT              of the functions that `held` names, without comments, on one line
+#
 # KIND is struct, const, or fn followed by what it has: method, extern, requires, ensures. The Lib.antt of the crates come first.
 
-BEGIN { OFS = "\t" }
+BEGIN {
+    OFS = "\t"
+    held["pool::reading::part"] = held["pool::writing::as_mut_slice"] = 1
+}
 
 FNR == 1 {
     flush()
@@ -62,6 +67,7 @@ function antt(    words, n, i, exported, marked, indent) {
 
 # A line of Rattle. A function's contract stands between its name and its body.
 function rattle(    words) {
+    if (holding != "") hold()
     if ($0 ~ /^impl /) {
         split($0, words, " ")
         type = words[2] "::"
@@ -82,6 +88,12 @@ function rattle(    words) {
         name_file = FILENAME
         name_place = place()
         name_type = type
+        if ((name_place name) in held) {
+            holding = name_place name
+            holding_part = "signature"
+            holding_text = $0
+            holding_indent = match($0, /[^ ]/) - 1
+        }
     } else if ($0 ~ /^ *(pub )?(const|struct) /) {
         name = $0
         sub(/^ *(pub )?(const|struct) /, "", name)
@@ -93,6 +105,33 @@ function rattle(    words) {
     if ($0 ~ /^ *requires \{/) kind = kind " requires"
     else if ($0 ~ /^ *ensures \{/) kind = kind " ensures"
     else if ($0 ~ /\{$/) flush()
+}
+
+# A further line of a function whose text is held: its signature up to the contract, and its body, from a line that has a brace alone.
+function hold(    line) {
+    line = $0
+    sub(/ *\/\/.*/, "", line)
+    if (holding_part == "signature" && line ~ /^ *(requires|ensures) \{/) {
+        held_text()
+        holding_part = "contract"
+    }
+    if (line ~ /^ *[{}]$/ && match(line, /[{}]/) - 1 == holding_indent) {
+        if (holding_part == "body") {
+            held_text()
+            holding = ""
+        }
+        holding_part = "body"
+        holding_text = ""
+    } else if (holding_part != "contract") holding_text = holding_text " " line
+}
+
+function held_text(    text) {
+    text = holding_text
+    gsub(/ +/, " ", text)
+    gsub(/\( /, "(", text)
+    gsub(/,? \)/, ")", text)
+    gsub(/^ | $/, "", text)
+    print "text", holding, holding_part, text
 }
 
 # Where a file's items are cited: its crate, and its own name unless it is the crate's root.
