@@ -109,11 +109,15 @@ function tokens(text, column, place,    words, n, i, found) {
     return found
 }
 
-# docs/ANSWER.md: a line of a theorem stands so in the specs.
+# docs/ANSWER.md: each line of a theorem stands so in the specs. A theorem is printed in lines indented by four or more, the first with an arrow.
 function statement(    line) {
     line = $0
-    if (!sub(/^     */, "", line) || !index(line, "→")) return
-    check(line in is_line, here(), "no line of the specs is: " line)
+    if (!sub(/^     */, "", line)) {
+        printed = 0
+        return
+    }
+    if (index(line, "→")) printed = 1
+    if (printed) check(line in is_line, here(), "no line of the specs is: " line)
 }
 
 # docs/PROVED.md: its tables' rows, each of which cites something, and its text.
