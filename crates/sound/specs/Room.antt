@@ -160,7 +160,7 @@ low-refusal (copyFrom slot source start end position) ls = low-else (low-2 _) (l
 low-refusal (insert slot position x) ls = low-else (low-2 _) (low-4 _)
 low-refusal (remove slot position) ls = low-else (low-2 _) (low-4 _)
 low-refusal (swapRemove slot position) ls = low-else (low-2 _) (low-4 _)
-low-refusal (truncate slot n) ls = low-2 _
+low-refusal (truncate slot new) ls = low-2 _
 low-refusal (growAt slot position count) ls = low-else (low-2 _) (low-4 _)
 low-refusal clearPool ls = low-none
 
