@@ -134,30 +134,30 @@ struct maaliskur_part {
  * CALLS THAT READ A LIST. Each can answer 1, 2 or 3 besides the numbers that it names.
  */
 
-/* Is the list in a slot empty? The value is 1 where it is, else 0. */
+/* Tells whether the list in a slot is empty: the value is 1 where it is, else 0. */
 struct maaliskur_answer maaliskur_is_empty(struct maaliskur_state state, const uint32_t *pool, size_t pool_len,
                                            const uint32_t *handles, size_t handles_len, size_t slot);
 
-/* The value is the number of elements of the list in a slot. */
+/* Gives the number of elements of the list in a slot as the value. */
 struct maaliskur_answer maaliskur_len(struct maaliskur_state state, const uint32_t *pool, size_t pool_len,
                                       const uint32_t *handles, size_t handles_len, size_t slot);
 
-/* Is the list in a slot valid? The value is 1; one that is not is refused. */
+/* Tells whether the list in a slot is valid: the value is 1, and a list that is not is refused. */
 struct maaliskur_answer maaliskur_is_valid(struct maaliskur_state state, const uint32_t *pool, size_t pool_len,
                                            const uint32_t *handles, size_t handles_len, size_t slot);
 
-/* The value is the element at a position of the list in a slot; 4 where position < length does not hold. */
+/* Gives the element at a position of the list in a slot as the value; 4 where position < length does not hold. */
 struct maaliskur_answer maaliskur_get(struct maaliskur_state state, const uint32_t *pool, size_t pool_len,
                                       const uint32_t *handles, size_t handles_len, size_t slot, size_t position);
 
-/* The value is the first element of the list in a slot; 4 where the list is empty. */
+/* Gives the first element of the list in a slot as the value; 4 where the list is empty. */
 struct maaliskur_answer maaliskur_first(struct maaliskur_state state, const uint32_t *pool, size_t pool_len,
                                         const uint32_t *handles, size_t handles_len, size_t slot);
 
 /*
- * Where the elements of the list in a slot lie, to be read, or to be written where the caller may write the pool. The
- * part is empty for an empty list, and where maaliskur_len would be refused. It holds until the next call that writes
- * the pool.
+ * Returns where the elements of the list in a slot lie, to be read, or to be written where the caller may write the
+ * pool. The part is empty for an empty list, and where maaliskur_len would be refused. It holds until the next call that
+ * writes the pool.
  */
 struct maaliskur_part maaliskur_part(struct maaliskur_state state, const uint32_t *pool, size_t pool_len,
                                      const uint32_t *handles, size_t handles_len, size_t slot);
@@ -176,13 +176,13 @@ struct maaliskur_answer maaliskur_from_slice(struct maaliskur_state state, uint3
                                              uint32_t *handles, size_t handles_len, size_t slot,
                                              const uint32_t *elements, size_t n);
 
-/* Puts a copy of the list in the slot from into the empty slot to; 5 where that is not empty; 6, 7. */
+/* Puts a copy of the list in a slot into the empty slot to; 5 where that is not empty; 6, 7. */
 struct maaliskur_answer maaliskur_deep_clone(struct maaliskur_state state, uint32_t *pool, size_t pool_len,
-                                             uint32_t *handles, size_t handles_len, size_t from, size_t to);
+                                             uint32_t *handles, size_t handles_len, size_t slot, size_t to);
 
-/* Moves the list in the slot from to the empty slot to; 5 where that is the same slot or not empty. */
+/* Moves the list in a slot to the empty slot to; 5 where that is the same slot or not empty. */
 struct maaliskur_answer maaliskur_take(struct maaliskur_state state, const uint32_t *pool, size_t pool_len,
-                                       uint32_t *handles, size_t handles_len, size_t from, size_t to);
+                                       uint32_t *handles, size_t handles_len, size_t slot, size_t to);
 
 /* Removes all elements from the list in a slot, and gives its block back. */
 struct maaliskur_answer maaliskur_clear(struct maaliskur_state state, uint32_t *pool, size_t pool_len,
@@ -198,13 +198,12 @@ struct maaliskur_answer maaliskur_extend(struct maaliskur_state state, uint32_t 
                                          size_t n);
 
 /*
- * Copies the elements from start to end, end not included, of the list in the slot source into the list in the slot
- * target, at a position, from which on its elements shift up; 4 where position <= length of the target or
- * start <= end <= length of the source does not hold; 5 where the two slots have equal handles, two empty lists included;
- * 6, 7.
+ * Copies the elements from start to end, end not included, of the list in the slot source into the list in a slot, at a
+ * position, from which on its elements shift up; 4 where position <= length or start <= end <= length of the source does
+ * not hold; 5 where the two slots have equal handles, two empty lists included; 6, 7.
  */
 struct maaliskur_answer maaliskur_copy_from(struct maaliskur_state state, uint32_t *pool, size_t pool_len,
-                                            uint32_t *handles, size_t handles_len, size_t target, size_t source,
+                                            uint32_t *handles, size_t handles_len, size_t slot, size_t source,
                                             size_t start, size_t end, size_t position);
 
 /*
@@ -266,12 +265,12 @@ struct maaliskur_answer maaliskur_audit(struct maaliskur_state state, const uint
  */
 
 /*
- * The class of a length, over MAALISKUR_LONGEST too: the least class whose block holds the length word and that many
- * elements.
+ * Returns the class of a length, over MAALISKUR_LONGEST too: the least class whose block holds the length word and that
+ * many elements.
  */
 uint32_t maaliskur_class(uint32_t length);
 
-/* The words in a block of a class, 4 shifted left by it; 0 where 32 bits do not hold that, from class 30 on. */
+/* Returns the words in a block of a class, 4 shifted left by it; 0 where 32 bits do not hold that, from class 30 on. */
 uint32_t maaliskur_size(uint32_t size_class);
 
 #ifdef __cplusplus

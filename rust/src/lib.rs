@@ -116,7 +116,7 @@ macro_rules! writing {
     }};
 }
 
-/// The value of an answer, or why the call was refused.
+/// Returns the value of an answer, or why the call was refused.
 fn judged(answer: sys::Answer) -> Result<u32, Refusal> {
     match answer.number {
         0 => Ok(answer.value),
@@ -126,7 +126,7 @@ fn judged(answer: sys::Answer) -> Result<u32, Refusal> {
     }
 }
 
-/// Nothing, where a call was done that has nothing to return, or why it was refused.
+/// Returns nothing where a call was done that has nothing to return, or why it was refused.
 fn done(answer: sys::Answer) -> Result<(), Refusal> {
     judged(answer).map(|_| ())
 }
@@ -172,7 +172,7 @@ impl<'a> Lists<'a> {
         Lists { state, pool, handles }
     }
 
-    /// The state: how many words are used, and the heads of the chains of free blocks.
+    /// Returns the state: how many words are used, and the heads of the chains of free blocks.
     ///
     /// ```
     /// # use maaliskur::Lists;
@@ -187,12 +187,12 @@ impl<'a> Lists<'a> {
         self.state
     }
 
-    /// The words of the pool.
+    /// Returns the words of the pool.
     pub fn pool(&self) -> &[u32] {
         self.pool
     }
 
-    /// The handles of the table.
+    /// Returns the handles of the table.
     pub fn handles(&self) -> &[u32] {
         self.handles
     }
@@ -212,7 +212,7 @@ impl<'a> Lists<'a> {
         done(writing!(self.maaliskur_from_slice(slot, elements.as_ptr(), elements.len())))
     }
 
-    /// Is the list in a slot empty?
+    /// Returns whether the list in a slot is empty.
     ///
     /// ```
     /// # use maaliskur::{Lists, Refusal};
@@ -228,7 +228,7 @@ impl<'a> Lists<'a> {
         judged(reading!(self.maaliskur_is_empty(slot))).map(|value| value != 0)
     }
 
-    /// The number of elements of the list in a slot.
+    /// Returns the number of elements of the list in a slot.
     ///
     /// ```
     /// # use maaliskur::{Lists, Refusal};
@@ -243,8 +243,8 @@ impl<'a> Lists<'a> {
         judged(reading!(self.maaliskur_len(slot))).map(|value| value as usize)
     }
 
-    /// Is the list in a slot valid? `Ok(true)`, or refused: a handle that is not locally sound is
-    /// [`Refusal::BadHandle`].
+    /// Returns whether the list in a slot is valid: `Ok(true)`, or refused. A handle that is not
+    /// locally sound is [`Refusal::BadHandle`].
     ///
     /// ```
     /// use maaliskur::{Lists, Refusal, State};
@@ -257,8 +257,8 @@ impl<'a> Lists<'a> {
         judged(reading!(self.maaliskur_is_valid(slot))).map(|value| value != 0)
     }
 
-    /// The elements of the list in a slot, as they lie in the pool: nothing where reading the list
-    /// is refused.
+    /// Returns the elements of the list in a slot, as they lie in the pool: nothing where reading
+    /// the list is refused.
     ///
     /// ```
     /// # use maaliskur::Lists;
@@ -273,8 +273,8 @@ impl<'a> Lists<'a> {
         &self.pool[self.part(slot)]
     }
 
-    /// The elements of the list in a slot, to be written where they lie: nothing where reading the
-    /// list is refused.
+    /// Returns the elements of the list in a slot, to be written where they lie: nothing where
+    /// reading the list is refused.
     ///
     /// ```
     /// # use maaliskur::Lists;
@@ -290,13 +290,13 @@ impl<'a> Lists<'a> {
         &mut self.pool[part]
     }
 
-    /// Where the elements of the list in a slot lie in the pool.
+    /// Returns where the elements of the list in a slot lie in the pool.
     fn part(&self, slot: usize) -> Range<usize> {
         let part = reading!(self.maaliskur_part(slot));
         part.start..part.end
     }
 
-    /// The element at a position of the list in a slot.
+    /// Returns the element at a position of the list in a slot.
     ///
     /// ```
     /// # use maaliskur::{Lists, Refusal};
@@ -311,7 +311,7 @@ impl<'a> Lists<'a> {
         judged(reading!(self.maaliskur_get(slot, position)))
     }
 
-    /// The first element of the list in a slot.
+    /// Returns the first element of the list in a slot.
     ///
     /// ```
     /// # use maaliskur::{Lists, Refusal};
@@ -341,7 +341,7 @@ impl<'a> Lists<'a> {
         done(writing!(self.maaliskur_set(slot, position, element)))
     }
 
-    /// Puts a copy of the list in the slot `from` into the empty slot `to`.
+    /// Puts a copy of the list in a slot into the empty slot `to`.
     ///
     /// ```
     /// # use maaliskur::Lists;
@@ -353,8 +353,8 @@ impl<'a> Lists<'a> {
     /// assert_eq!(lists.as_slice(1), [7, 8]);
     /// # Ok::<(), maaliskur::Refusal>(())
     /// ```
-    pub fn deep_clone(&mut self, from: usize, to: usize) -> Result<(), Refusal> {
-        done(writing!(self.maaliskur_deep_clone(from, to)))
+    pub fn deep_clone(&mut self, slot: usize, to: usize) -> Result<(), Refusal> {
+        done(writing!(self.maaliskur_deep_clone(slot, to)))
     }
 
     /// Removes all elements from the list in a slot and gives its block back.
@@ -372,7 +372,7 @@ impl<'a> Lists<'a> {
         done(writing!(self.maaliskur_clear(slot)))
     }
 
-    /// Moves the list in the slot `from` to another, empty slot `to`, and leaves `from` empty.
+    /// Moves the list in a slot to another, empty slot `to`, and leaves the slot empty.
     ///
     /// ```
     /// # use maaliskur::Lists;
@@ -383,8 +383,8 @@ impl<'a> Lists<'a> {
     /// assert_eq!((lists.as_slice(0), lists.as_slice(1)), (&[][..], &[7, 8][..]));
     /// # Ok::<(), maaliskur::Refusal>(())
     /// ```
-    pub fn take(&mut self, from: usize, to: usize) -> Result<(), Refusal> {
-        done(writing!(self.maaliskur_take(from, to)))
+    pub fn take(&mut self, slot: usize, to: usize) -> Result<(), Refusal> {
+        done(writing!(self.maaliskur_take(slot, to)))
     }
 
     /// Appends an element to the list in a slot and returns the old length, which is where the
@@ -417,8 +417,7 @@ impl<'a> Lists<'a> {
         done(writing!(self.maaliskur_extend(slot, elements.as_ptr(), elements.len())))
     }
 
-    /// Copies a range of the list in the slot `source` into the list in the slot `target`, at a
-    /// position.
+    /// Copies a range of the list in the slot `source` into the list in a slot, at a position.
     ///
     /// ```
     /// # use maaliskur::{Lists, Refusal};
@@ -433,12 +432,12 @@ impl<'a> Lists<'a> {
     /// ```
     pub fn copy_from(
         &mut self,
-        target: usize,
+        slot: usize,
         source: usize,
         range: Range<usize>,
         position: usize,
     ) -> Result<(), Refusal> {
-        done(writing!(self.maaliskur_copy_from(target, source, range.start, range.end, position)))
+        done(writing!(self.maaliskur_copy_from(slot, source, range.start, range.end, position)))
     }
 
     /// Puts an element at a position of the list in a slot; those from there on shift up.
@@ -567,7 +566,7 @@ impl<'a> Lists<'a> {
     }
 }
 
-/// The class of a list of a length: its block has room for the length and the elements.
+/// Returns the class of a list of a length: its block has room for the length and the elements.
 ///
 /// ```
 /// assert_eq!([1, 3, 4, 7, 8, 65_535].map(maaliskur::class), [0, 0, 1, 1, 2, 14]);
@@ -577,7 +576,8 @@ pub fn class(length: u32) -> u32 {
     unsafe { sys::maaliskur_class(length) }
 }
 
-/// The words in a block of a class; 0 from class 30 on, where 32 bits do not hold them.
+/// Returns how many words a block of a class has; 0 from class 30 on, where 32 bits do not hold
+/// them.
 ///
 /// ```
 /// assert_eq!([0, 1, 2, 14].map(maaliskur::size), [4, 8, 16, 65_536]);

@@ -45,7 +45,7 @@ impl Refusal {
         Refusal::NotSound,
     ];
 
-    /// The number that the library gives for it, 1 to 9.
+    /// Returns the number that the library gives for it, 1 to 9.
     ///
     /// ```
     /// assert_eq!(maaliskur::Refusal::NoRoom.number(), 7);
@@ -54,7 +54,7 @@ impl Refusal {
         self as u32
     }
 
-    /// The refusal with a number, if there is one.
+    /// Returns the refusal with a number, if there is one.
     ///
     /// ```
     /// use maaliskur::Refusal;

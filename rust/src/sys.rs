@@ -47,12 +47,12 @@ extern "C" {
     pub fn maaliskur_get(state: State, pool: *const u32, pool_len: usize, handles: *const u32, handles_len: usize, slot: usize, position: usize) -> Answer;
     pub fn maaliskur_first(state: State, pool: *const u32, pool_len: usize, handles: *const u32, handles_len: usize, slot: usize) -> Answer;
     pub fn maaliskur_set(state: State, pool: *mut u32, pool_len: usize, handles: *const u32, handles_len: usize, slot: usize, position: usize, element: u32) -> Answer;
-    pub fn maaliskur_deep_clone(state: State, pool: *mut u32, pool_len: usize, handles: *mut u32, handles_len: usize, from: usize, to: usize) -> Answer;
+    pub fn maaliskur_deep_clone(state: State, pool: *mut u32, pool_len: usize, handles: *mut u32, handles_len: usize, slot: usize, to: usize) -> Answer;
     pub fn maaliskur_clear(state: State, pool: *mut u32, pool_len: usize, handles: *mut u32, handles_len: usize, slot: usize) -> Answer;
-    pub fn maaliskur_take(state: State, pool: *const u32, pool_len: usize, handles: *mut u32, handles_len: usize, from: usize, to: usize) -> Answer;
+    pub fn maaliskur_take(state: State, pool: *const u32, pool_len: usize, handles: *mut u32, handles_len: usize, slot: usize, to: usize) -> Answer;
     pub fn maaliskur_push(state: State, pool: *mut u32, pool_len: usize, handles: *mut u32, handles_len: usize, slot: usize, element: u32) -> Answer;
     pub fn maaliskur_extend(state: State, pool: *mut u32, pool_len: usize, handles: *mut u32, handles_len: usize, slot: usize, elements: *const u32, n: usize) -> Answer;
-    pub fn maaliskur_copy_from(state: State, pool: *mut u32, pool_len: usize, handles: *mut u32, handles_len: usize, target: usize, source: usize, start: usize, end: usize, position: usize) -> Answer;
+    pub fn maaliskur_copy_from(state: State, pool: *mut u32, pool_len: usize, handles: *mut u32, handles_len: usize, slot: usize, source: usize, start: usize, end: usize, position: usize) -> Answer;
     pub fn maaliskur_insert(state: State, pool: *mut u32, pool_len: usize, handles: *mut u32, handles_len: usize, slot: usize, position: usize, element: u32) -> Answer;
     pub fn maaliskur_remove(state: State, pool: *mut u32, pool_len: usize, handles: *mut u32, handles_len: usize, slot: usize, position: usize) -> Answer;
     pub fn maaliskur_swap_remove(state: State, pool: *mut u32, pool_len: usize, handles: *mut u32, handles_len: usize, slot: usize, position: usize) -> Answer;

@@ -145,12 +145,14 @@ fn spelled(call: &Call, pool: &Pool, lists: &[List]) -> (usize, Vec<usize>) {
         Call::First(a) => (7, vec![*a]),
         Call::AsMutSlice(a, e) => (8, with(*a, e)),
         Call::GetMut(a, i, x) => (9, vec![*a, *i, *x as usize]),
-        Call::DeepClone(a, b) => (10, vec![*a, *b]),
+        Call::DeepClone(slot, to) => (10, vec![*slot, *to]),
         Call::Clear(a) => (11, vec![*a]),
-        Call::Take(a, b) => (12, vec![*a, *b]),
+        Call::Take(slot, to) => (12, vec![*slot, *to]),
         Call::Push(a, x) => (13, vec![*a, *x as usize]),
         Call::Extend(a, e) => (14, with(*a, e)),
-        Call::CopyFrom(a, b, start, end, i) => (15, vec![*a, *b, *start, *end, *i]),
+        Call::CopyFrom(slot, source, start, end, position) => {
+            (15, vec![*slot, *source, *start, *end, *position])
+        }
         Call::Insert(a, i, x) => (16, vec![*a, *i, *x as usize]),
         Call::Remove(a, i) => (17, vec![*a, *i]),
         Call::SwapRemove(a, i) => (18, vec![*a, *i]),
@@ -189,14 +191,14 @@ fn made(call: &Call, pool: &mut Pool, lists: &mut Vec<List>) -> usize {
             return part.len();
         }
         Call::GetMut(a, i, x) => *lists[*a].get_mut(*i, pool).unwrap() = Word(*x),
-        Call::DeepClone(a, b) => lists[*b] = lists[*a].deep_clone(pool),
+        Call::DeepClone(slot, to) => lists[*to] = lists[*slot].deep_clone(pool),
         Call::Clear(a) => lists[*a].clear(pool),
-        Call::Take(a, b) => lists[*b] = lists[*a].take(),
+        Call::Take(slot, to) => lists[*to] = lists[*slot].take(),
         Call::Push(a, x) => return lists[*a].push(Word(*x), pool),
         Call::Extend(a, e) => lists[*a].extend(words_of(e), pool),
-        Call::CopyFrom(a, b, start, end, i) => {
-            let source = lists[*b];
-            lists[*a].copy_from(&source, *start..*end, *i, pool);
+        Call::CopyFrom(slot, source, start, end, position) => {
+            let source = lists[*source];
+            lists[*slot].copy_from(&source, *start..*end, *position, pool);
         }
         Call::Insert(a, i, x) => lists[*a].insert(*i, Word(*x), pool),
         Call::Remove(a, i) => lists[*a].remove(*i, pool),
@@ -338,8 +340,8 @@ impl Run {
             Call::Remove(a, i) | Call::SwapRemove(a, i) => *i >= self.len(*a),
             Call::First(a) => self.empty(*a),
             Call::Insert(a, i, _) | Call::GrowAt(a, i, _) => *i > self.len(*a),
-            Call::CopyFrom(a, b, start, end, i) => {
-                *i > self.len(*a) || start > end || *end > self.len(*b)
+            Call::CopyFrom(slot, source, start, end, position) => {
+                *position > self.len(*slot) || start > end || *end > self.len(*source)
             }
             _ => false,
         };
@@ -348,9 +350,11 @@ impl Run {
         }
         let clash = match call {
             Call::FromSlice(a, _) => !self.empty(*a),
-            Call::DeepClone(_, b) => !self.empty(*b),
-            Call::Take(a, b) => a == b || !self.empty(*b),
-            Call::CopyFrom(a, b, ..) => handle(&self.lists[*a]) == handle(&self.lists[*b]),
+            Call::DeepClone(_, to) => !self.empty(*to),
+            Call::Take(slot, to) => slot == to || !self.empty(*to),
+            Call::CopyFrom(slot, source, ..) => {
+                handle(&self.lists[*slot]) == handle(&self.lists[*source])
+            }
             _ => false,
         };
         if clash {

@@ -35,14 +35,16 @@ module _ (st : ListPool) (ws hs map : List ℕ) where
   pub data Case : Type 0 where
     limit : overLimit (st .used) (length ws) (length hs) ≡ true → Ends 1 map → Case
     short : Within (st .used) (length ws) (length hs) → length map < st .used / 4 → Ends 8 map → Case
-    accepts : Within (st .used) (length ws) (length hs) → st .used / 4 ≤ length map → (m : List ℕ) → accepted st ws hs (cleaned st map) ≡ some m → Ends 0 m → Case
+    accepts : Within (st .used) (length ws) (length hs) → st .used / 4 ≤ length map
+        → (m : List ℕ) → accepted st ws hs (cleaned st map) ≡ some m → Ends 0 m → Case
     refuses : Within (st .used) (length ws) (length hs) → st .used / 4 ≤ length map → accepted st ws hs (cleaned st map) ≡ none → Ends 9 (cleaned st map) → Case
 
   pub audit-case : Case
   unfolding audit auditNumber verdict given _orElse_
   audit-case = outer (overLimit (st .used) (length ws) (length hs)) refl
     where
-      inner : overLimit (st .used) (length ws) (length hs) ≡ false → st .used / 4 ≤ length map → (o : Option (List ℕ)) → accepted st ws hs (cleaned st map) ≡ o → Case
+      inner : overLimit (st .used) (length ws) (length hs) ≡ false → st .used / 4 ≤ length map
+          → (o : Option (List ℕ)) → accepted st ws hs (cleaned st map) ≡ o → Case
       inner e l (some m) a = accepts (within-facts _ _ _ e) l m a (ends (rw (e, le-ltb (length map) (st .used / 4) l, a)))
       inner e l none a = refuses (within-facts _ _ _ e) l a (ends (rw (e, le-ltb (length map) (st .used / 4) l, a)))
 

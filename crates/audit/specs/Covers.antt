@@ -18,7 +18,8 @@ use Rattle.sound.specs.SoundBut.{live-none, live-some}
 use Rattle.sound.specs.CutProperties.{words-add-up}
 use Rattle.audit.specs.Audit.{liveMark, freeMark, groupOf, groupsAt, accepted}
 use Rattle.audit.specs.Marks.{Mark, Made, Fits, fits-append, made-length, made-take, made-whole}
-use Rattle.audit.specs.Sweep.{groups-live, groups-free, markOver, marksOver, mapOver, mark-some, map-none, made-over, Sized, sized-made, over-made, swept-over, over-swept}
+use Rattle.audit.specs.Sweep.{groups-live, groups-free, markOver, marksOver, mapOver, mark-some, map-none, made-over}
+use Rattle.audit.specs.Sweep.{Sized, sized-made, over-made, swept-over, over-swept}
 use Rattle.audit.specs.Walks.{liveMarks, freeMarks, chainMarks, HandlesSound, Chains, Walked, marksOf, Accepted, accepted-when}
 
 marks-append : (ws : List ℕ) (i : ℕ) (xs ys : List Mark) → marksOver ws i (xs ++ ys) ≡ marksOver ws i xs + marksOver ws i ys
@@ -38,7 +39,8 @@ module _ (used : ℕ) (ws : List ℕ) where
       let f = handle-facts used ws (suc b) (s 0) (omega arith) in
       (omega (arith, size-least (classOf (getD ws (suc b - 1) 0))), omega arith, omega arith, live-fits (suc slot) hs (omega arith) (λ k. s (suc k)))
 
-  live-covers : (i slot : ℕ) (hs : List ℕ) → slot + length hs < freeMark 0 → HandlesSound used ws hs → marksOver ws i (liveMarks slot hs) ≡ sum (λ slot h. liveOver ws i h) hs
+  live-covers : (i slot : ℕ) (hs : List ℕ) → slot + length hs < freeMark 0 → HandlesSound used ws hs
+      → marksOver ws i (liveMarks slot hs) ≡ sum (λ slot h. liveOver ws i h) hs
   unfolding liveMarks marksOver sum
   live-covers i slot [] l s = refl
   live-covers i slot (zero ∷ hs) l s = omega (arith, live-none ws i, live-covers i (suc slot) hs (omega arith) (λ k. s (suc k)))
@@ -48,7 +50,8 @@ module _ (used : ℕ) (ws : List ℕ) where
       let g : groupOf h * 4 ≡ h - 1 = omega arith in
       let n : groupsAt ws (groupOf h) (liveMark slot) * 4 ≡ sizeOf (classOf (getD ws (h - 1) 0)) =
       groups-live ws (groupOf h) (liveMark slot) (omega arith) ∙ ap (λ (x : ℕ). sizeOf (classOf (getD ws x 0))) g in
-      let o : markOver ws i (groupOf h) (liveMark slot) ≡ liveOver ws i h = mark-some ws i (groupOf h) (liveMark slot) (omega arith) ∙ rw (g, n) (sym (live-some ws i h (omega arith))) in
+      let o : markOver ws i (groupOf h) (liveMark slot) ≡ liveOver ws i h =
+      mark-some ws i (groupOf h) (liveMark slot) (omega arith) ∙ rw (g, n) (sym (live-some ws i h (omega arith))) in
       omega (arith, o, live-covers i (suc slot) hs (omega arith) (λ k. s (suc k)))
 
   -- THE CHAINS
@@ -67,7 +70,8 @@ module _ (used : ℕ) (ws : List ℕ) where
   free-covers i c h (b ∷ bs) l (e, s, C) =
       let f = head-facts used ws c h s (omega arith) in
       let g : b / 4 * 4 ≡ b = omega arith in
-      let o : markOver ws i (b / 4) (freeMark c) ≡ over b (sizeOf c) i = mark-some ws i (b / 4) (freeMark c) (omega arith) ∙ rw (g, groups-free ws (b / 4) c l) in
+      let o : markOver ws i (b / 4) (freeMark c) ≡ over b (sizeOf c) i =
+      mark-some ws i (b / 4) (freeMark c) (omega arith) ∙ rw (g, groups-free ws (b / 4) c l) in
       omega (arith, o, free-covers i c (getD ws h 0) bs l C)
 
   -- and those of all chains
@@ -110,7 +114,8 @@ clean-take {n} {m} c k = go (decLt k n)
     go (yes l) = getD-take n m k 0 l ∙ c .zeros k l
     go (no l) = List·getD-eq-default (take n m) 0 {n = k} (omega (arith, length-take-le n m (c .room)))
 
-module _ {st : ListPool} {ws hs : List ℕ} {fs : List (List ℕ)} (W : Within (st .used) (length ws) (length hs)) (n : length (st .heads) ≡ classCount) (K : Walked st ws hs fs) where
+module _ {st : ListPool} {ws hs : List ℕ} {fs : List (List ℕ)} (W : Within (st .used) (length ws) (length hs))
+    (n : length (st .heads) ≡ classCount) (K : Walked st ws hs fs) where
   pub marks-fit : Fits (st .used / 4) (marksOf hs fs)
   marks-fit =
       fits-append (st .used / 4) (liveMarks 0 hs) (chainMarks 0 fs) (live-fits (st .used) ws 0 hs (omega arith) (K .handles))
@@ -133,7 +138,8 @@ module _ {st : ListPool} {ws hs : List ℕ} {fs : List (List ℕ)} (W : Within (
     front-fits = rw front-is marks-fit
 
     -- a map's marks cover just what the blocks do
-    map-covers : (m′ : List ℕ) → Made (marksOf hs fs) (take (st .used / 4) m) m′ → (i : ℕ) → mapOver ws i 0 m′ ≡ sum (λ slot h. liveOver ws i h) hs + sum (freeOver i) fs
+    map-covers : (m′ : List ℕ) → Made (marksOf hs fs) (take (st .used / 4) m) m′ → (i : ℕ)
+        → mapOver ws i 0 m′ ≡ sum (λ slot h. liveOver ws i h) hs + sum (freeOver i) fs
     map-covers m′ a i =
         omega (
           arith,

@@ -1,4 +1,5 @@
--- The audit accepts exactly the sound pools, answers each number exactly when paper 01 says, and on 0 its map tells of every group of words in which block it lies.
+-- The audit accepts exactly the sound pools and answers each number exactly when paper 01 says; on 0 its map tells of every group of words in which
+-- block it lies.
 use mathlib.Core.Path.{_≡_, refl, sym, ap, _∙_}
 use mathlib.Core.Bool.{true, true≢false}
 use mathlib.Core.List.{List, []}
@@ -91,7 +92,8 @@ module _ (st : ListPool) (ws hs map : List ℕ) where
       → (audit st ws hs map .answer .number ≡ 9) ↔ (Within (st .used) (length ws) (length hs) × (st .used / 4 ≤ length map) × (Sound st ws hs → ⊥))
   audit-nine n = go (audit-case st ws hs map)
     where
-      go : Case st ws hs map → (audit st ws hs map .answer .number ≡ 9) ↔ (Within (st .used) (length ws) (length hs) × (st .used / 4 ≤ length map) × (Sound st ws hs → ⊥))
+      go : Case st ws hs map
+          → (audit st ws hs map .answer .number ≡ 9) ↔ (Within (st .used) (length ws) (length hs) × (st .used / 4 ≤ length map) × (Sound st ws hs → ⊥))
       go (limit e q) = (λ z. absurd (omega arith), λ (w, l, u). absurd (true≢false (sym e ∙ within-limits w)))
       go (short w l q) = (λ z. absurd (omega arith), λ (v, r, u). absurd (omega arith))
       go (accepts w l m a q) = (λ z. absurd (omega arith), λ (v, r, u). absurd (u (audit-exact w n l .0 (q .number))))
@@ -179,7 +181,9 @@ module _ {st : ListPool} {ws hs : List ℕ} {fs : List (List ℕ)} (map : List �
   accepted-here : Within (st .used) (length ws) (length hs) × (st .used / 4 ≤ length map) × Accepted st ws hs fs (cleaned st map) (audit st ws hs map .map)
   accepted-here = go (audit-case st ws hs map)
     where
-      go : Case st ws hs map → Within (st .used) (length ws) (length hs) × (st .used / 4 ≤ length map) × Accepted st ws hs fs (cleaned st map) (audit st ws hs map .map)
+      go : Case st ws hs map
+          → Within (st .used) (length ws) (length hs) × (st .used / 4 ≤ length map)
+          × Accepted st ws hs fs (cleaned st map) (audit st ws hs map .map)
       go (limit e q) = absurd (omega arith)
       go (short w l q) = absurd (omega arith)
       go (accepts w l m a q) =
@@ -202,7 +206,8 @@ module _ {st : ListPool} {ws hs : List ℕ} {fs : List (List ℕ)} (map : List �
   map-says g b ne =
       let (w, l, A) = accepted-here in
       let c = cleaned-clean st map l in
-      let (x, i, s, v) = made-from (st .used / 4) (marksOf hs fs) (cleaned st map) _ g (marks-fit w (C .heads) (A .walked)) (c .room) (A .made) (c .zeros g b) (omega arith) in
+      let fit = marks-fit w (C .heads) (A .walked) in
+      let (x, i, s, v) = made-from (st .used / 4) (marksOf hs fs) (cleaned st map) _ g fit (c .room) (A .made) (c .zeros g b) (omega arith) in
       let (p, B, t, e) = mark-place hs fs x (C .classes) i in
       (p, B, omega (arith, start-fours C p B), sym v ∙ e)
 
@@ -227,7 +232,8 @@ module _ {st : ListPool} {ws hs : List ℕ} {fs : List (List ℕ)} (map : List �
           absurd (omega (arith, ap (startOf hs fs) same))
       go (inr u) (no l) = absurd (word-in-none C (g * 4) (omega (arith, accepted-here .0 .fours)) p here)
 
-  -- "For every group, whose block it is": all its words lie in one block; the map has that block's mark at its first group, and nothing from there up to the group.
+  -- "For every group, whose block it is": all its words lie in one block; the map has that block's mark at its first group, and nothing from there up
+  -- to the group.
   pub map-place : (g : ℕ) → g < st .used / 4
       → (p : Place) × ((i : ℕ) → i / 4 ≡ g → Lies ws hs fs i p)
       × (mapWord st ws hs map (startOf hs fs p / 4) ≡ markOf p)
@@ -250,7 +256,8 @@ module _ {st : ListPool} {ws hs : List ℕ} {fs : List (List ℕ)} (map : List �
     λ e. let s : groupOf (handleAt hs slot) ≡ g = omega arith in rw (← s) (map-first (live slot) (b, omega arith)),
   )
     where
-      there : (p : Place) → Block hs fs p → startOf hs fs p ≡ g * 4 → mapWord st ws hs map g ≡ markOf p → mapWord st ws hs map g ≡ slot + 1 → handleAt hs slot ≡ g * 4 + 1
+      there : (p : Place) → Block hs fs p → startOf hs fs p ≡ g * 4
+          → mapWord st ws hs map g ≡ markOf p → mapWord st ws hs map g ≡ slot + 1 → handleAt hs slot ≡ g * 4 + 1
       there (live s) (r, ne) f v e = let same : slot ≡ s = omega arith in rw same (omega arith)
       there (free c k) B f v e = absurd (omega (arith, accepted-here .0 .table-limit))
 
@@ -261,7 +268,8 @@ module _ {st : ListPool} {ws hs : List ℕ} {fs : List (List ℕ)} (map : List �
     λ (k, (n, e)). let s : getD (getD fs c []) k 0 / 4 ≡ g = omega arith in rw (← s) (map-first (free c k) (b, n)),
   )
     where
-      there : (p : Place) → Block hs fs p → startOf hs fs p ≡ g * 4 → mapWord st ws hs map g ≡ markOf p → mapWord st ws hs map g ≡ 2147483648 + c → (k : ℕ) × OnChain fs c k (g * 4)
+      there : (p : Place) → Block hs fs p → startOf hs fs p ≡ g * 4
+          → mapWord st ws hs map g ≡ markOf p → mapWord st ws hs map g ≡ 2147483648 + c → (k : ℕ) × OnChain fs c k (g * 4)
       there (live s) (r, ne) f v e = absurd (omega (arith, accepted-here .0 .table-limit))
       there (free d k) (r, n) f v e = let same : c ≡ d = omega arith in (k, rw same (n, f))
 

@@ -49,7 +49,8 @@ module _ {n : ℕ} {whole left : Option (List ℕ)} {entry map : List ℕ} (l : 
   left-is e = record { is = l .is ∙ e; rest = l .rest; long = l .long }
 
   -- a part of it, which concerns the first m words alone: refused, or done
-  module _ {m : ℕ} {rule : Option (List ℕ)} {exit : List ℕ} {r : Bool} (next : List ℕ → Option (List ℕ)) (e : left ≡ andThen rule next) (h : m ≤ n) (p : Passed m rule map exit r) where
+  module _ {m : ℕ} {rule : Option (List ℕ)} {exit : List ℕ} {r : Bool} (next : List ℕ → Option (List ℕ))
+      (e : left ≡ andThen rule next) (h : m ≤ n) (p : Passed m rule map exit r) where
     pub left-refused : r ≡ false → Passed n whole entry exit false
     unfolding andThen
     left-refused q = record { is = l .is ∙ e ∙ rw (p .is, q); rest = drop-more _ _ m n h (p .rest) ∙ l .rest }
@@ -71,14 +72,17 @@ module _ (used : ℕ) (ws hs : List ℕ) (slot : ℕ) (map : List ℕ) where
     handles-refused e = rw (drop-cons hs slot 0 h, e)
 
     -- an empty one is passed over
-    pub handles-empty : soundHandle used ws (getD hs slot 0) ≡ true → getD hs slot 0 ≡ 0 → handlesMarked used ws slot (drop slot hs) map ≡ handlesMarked used ws (slot + 1) (drop (slot + 1) hs) map
+    pub handles-empty : soundHandle used ws (getD hs slot 0) ≡ true → getD hs slot 0 ≡ 0
+        → handlesMarked used ws slot (drop slot hs) map
+        ≡ handlesMarked used ws (slot + 1) (drop (slot + 1) hs) map
     unfolding handlesMarked
     handles-empty e z = rw (add-one, drop-cons hs slot 0 h, e, eq-eqb (getD hs slot 0) 0 z)
 
     pub handles-live :
         soundHandle used ws (getD hs slot 0) ≡ true →
         (getD hs slot 0 ≡ 0 → ⊥) →
-        handlesMarked used ws slot (drop slot hs) map ≡ andThen (marked (getD hs slot 0) (liveMark slot) map) (handlesMarked used ws (slot + 1) (drop (slot + 1) hs))
+        handlesMarked used ws slot (drop slot hs) map
+        ≡ andThen (marked (getD hs slot 0) (liveMark slot) map) (handlesMarked used ws (slot + 1) (drop (slot + 1) hs))
     unfolding handlesMarked
     handles-live e z = rw (drop-cons hs slot 0 h, e, ne-eqb (getD hs slot 0) 0 z, add-one)
 
@@ -106,7 +110,9 @@ module _ (used : ℕ) (ws : List ℕ) (c h : ℕ) (map : List ℕ) where
     chain-refused zero e = rw (ne-eqb h 0 z)
     chain-refused (suc most) e = rw (ne-eqb h 0 z, e)
 
-    pub chain-free : (most : ℕ) → 0 < most → soundHead used ws c h ≡ true → chainMarked used ws most c h map ≡ andThen (marked h (freeMark c) map) (chainMarked used ws (most - 1) c (getD ws h 0))
+    pub chain-free : (most : ℕ) → 0 < most → soundHead used ws c h ≡ true
+        → chainMarked used ws most c h map
+        ≡ andThen (marked h (freeMark c) map) (chainMarked used ws (most - 1) c (getD ws h 0))
     unfolding chainMarked
     chain-free zero p e = absurd (omega arith)
     chain-free (suc most) p e =
@@ -125,7 +131,9 @@ module _ (used : ℕ) (ws heads : List ℕ) (c : ℕ) (map : List ℕ) where
   unfolding chainsMarked
   chains-end h = rw (drop-of-length-le heads h)
 
-  pub chains-next : c < length heads → chainsMarked used ws c (drop c heads) map ≡ andThen (chainMarked used ws (used / 4) c (getD heads c 0) map) (chainsMarked used ws (c + 1) (drop (c + 1) heads))
+  pub chains-next : c < length heads
+      → chainsMarked used ws c (drop c heads) map
+      ≡ andThen (chainMarked used ws (used / 4) c (getD heads c 0) map) (chainsMarked used ws (c + 1) (drop (c + 1) heads))
   unfolding chainsMarked
   chains-next h = rw (add-one, drop-cons heads c 0 h)
 
@@ -151,7 +159,9 @@ module _ (ws map : List ℕ) (groups g next : ℕ) (long : groups ≤ length map
       unfolding swept
       swept-gap z = ap (swept ws g next) marks-cons ∙ rw (eq-eqb g next e, eq-eqb (getD map g 0) 0 z)
 
-      pub swept-block : (getD map g 0 ≡ 0 → ⊥) → swept ws g next (drop g (take groups map)) ≡ swept ws (g + 1) (g + groupsAt ws g (getD map g 0)) (drop (g + 1) (take groups map))
+      pub swept-block : (getD map g 0 ≡ 0 → ⊥)
+          → swept ws g next (drop g (take groups map))
+          ≡ swept ws (g + 1) (g + groupsAt ws g (getD map g 0)) (drop (g + 1) (take groups map))
       unfolding swept
       swept-block z = ap (swept ws g next) marks-cons ∙ rw (eq-eqb g next e, ne-eqb (getD map g 0) 0 z, add-one)
 
@@ -172,7 +182,8 @@ unfolding filled
 filled-start ws n v h = sets-eq (replicate n v) ws 0 (simp length-replicate (omega arith)) ∙ simp (length-replicate, zero-add)
 
 -- filled again from its start, after a pass that kept the rest
-pub filled-again : (map exit : List ℕ) (n v : ℕ) → n ≤ length map → n ≤ length exit → drop n exit ≡ drop n (filled map 0 n v) → filled exit 0 n v ≡ filled map 0 n v
+pub filled-again : (map exit : List ℕ) (n v : ℕ) → n ≤ length map → n ≤ length exit
+    → drop n exit ≡ drop n (filled map 0 n v) → filled exit 0 n v ≡ filled map 0 n v
 filled-again map exit n v h k e =
     let rest : drop n (filled map 0 n v) ≡ drop n map = rw (filled-start map n v h) (drop-at (replicate n v) (drop n map) n (length-replicate n v)) in
     rw (filled-start exit n v k, filled-start map n v h, e ∙ rest)

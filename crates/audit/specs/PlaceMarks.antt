@@ -1,6 +1,7 @@
 -- The mark of every place: the marks of a pool's blocks are those of its places, each at the first group of the block there.
 use mathlib.Core.Path.{_≡_, refl, sym, ap, _∙_}
-use mathlib.Core.List.{List, [], _∷_, List·Memᴰ, List·Memᴰ·head, List·Memᴰ·tail, List·Memᴰ·not-nil, List·Memᴰ·cases-cons, List·Memᴰ·append-cases, Memᴰ·append-left, Memᴰ·append-right}
+use mathlib.Core.List.{List, [], _∷_, List·Memᴰ, List·Memᴰ·head, List·Memᴰ·tail, List·Memᴰ·not-nil}
+use mathlib.Core.List.{List·Memᴰ·cases-cons, List·Memᴰ·append-cases, Memᴰ·append-left, Memᴰ·append-right}
 use mathlib.Core.Logic.{_≢_, _⊎_, inl, inr}
 use Prim.Native.Nat.{ℕ, zero, suc, _+_, _/_, _%_, _<_}
 use native.Mathlib.Omega.{arith}
@@ -22,7 +23,8 @@ markOf (free c k) = freeMark c
 
 -- EVERY PLACE HAS ITS MARK
 
-live-mark : (base : ℕ) (hs : List ℕ) (slot v : ℕ) → handleAt hs slot ≢ 0 → v ≡ liveMark (base + slot) → List·Memᴰ (mark (groupOf (handleAt hs slot)) v) (liveMarks base hs)
+live-mark : (base : ℕ) (hs : List ℕ) (slot v : ℕ) → handleAt hs slot ≢ 0 → v ≡ liveMark (base + slot)
+    → List·Memᴰ (mark (groupOf (handleAt hs slot)) v) (liveMarks base hs)
 unfolding liveMarks
 live-mark base [] slot v ne e = absurd (ne refl)
 live-mark base (zero ∷ hs) zero v ne e = absurd (ne refl)
@@ -36,7 +38,8 @@ free-mark c [] k v l e = absurd (omega arith)
 free-mark c (b ∷ bs) zero v l e = List·Memᴰ·head (ap (mark (b / 4)) e)
 free-mark c (b ∷ bs) (suc k) v l e = List·Memᴰ·tail (free-mark c bs k v (omega arith) e)
 
-chain-mark : (base : ℕ) (fs : List (List ℕ)) (c k v : ℕ) → k < length (getD fs c []) → v ≡ freeMark (base + c) → List·Memᴰ (mark (getD (getD fs c []) k 0 / 4) v) (chainMarks base fs)
+chain-mark : (base : ℕ) (fs : List (List ℕ)) (c k v : ℕ) → k < length (getD fs c []) → v ≡ freeMark (base + c)
+    → List·Memᴰ (mark (getD (getD fs c []) k 0 / 4) v) (chainMarks base fs)
 unfolding chainMarks
 chain-mark base [] c k v l e = absurd (omega arith)
 chain-mark base (bs ∷ fs) zero k v l e = Memᴰ·append-left (chainMarks (suc base) fs) (free-mark base bs k v l (omega arith))
@@ -55,9 +58,12 @@ mark-live base [] x i = absurd (List·Memᴰ·not-nil i)
 mark-live base (zero ∷ hs) x i = let (s, l, ne, g, e) = mark-live (suc base) hs x i in (suc s, omega arith, ne, g, omega arith)
 mark-live base (suc b ∷ hs) x i = go (λ j. mark-live (suc base) hs x j) (List·Memᴰ·cases-cons i)
   where
-    go : (List·Memᴰ x (liveMarks (suc base) hs) → (slot : ℕ) × (slot < length hs) × (handleAt hs slot ≢ 0) × (groupOf (handleAt hs slot) ≡ x .group) × (x .word ≡ liveMark (suc base + slot)))
+    go : (List·Memᴰ x (liveMarks (suc base) hs)
+        → (slot : ℕ) × (slot < length hs) × (handleAt hs slot ≢ 0)
+        × (groupOf (handleAt hs slot) ≡ x .group) × (x .word ≡ liveMark (suc base + slot)))
         → (x ≡ mark (groupOf (suc b)) (liveMark base)) ⊎ List·Memᴰ x (liveMarks (suc base) hs)
-        → (slot : ℕ) × (slot < suc (length hs)) × (handleAt (suc b ∷ hs) slot ≢ 0) × (groupOf (handleAt (suc b ∷ hs) slot) ≡ x .group) × (x .word ≡ liveMark (base + slot))
+        → (slot : ℕ) × (slot < suc (length hs)) × (handleAt (suc b ∷ hs) slot ≢ 0)
+        × (groupOf (handleAt (suc b ∷ hs) slot) ≡ x .group) × (x .word ≡ liveMark (base + slot))
     go rec (inl e) = (0, omega arith, λ z. omega arith, sym (ap (λ (y : Mark). y .group) e), ap (λ (y : Mark). y .word) e ∙ omega arith)
     go rec (inr j) = let (s, l, ne, g, e) = rec j in (suc s, omega arith, ne, g, omega arith)
 
@@ -67,7 +73,8 @@ mark-free c [] x i = absurd (List·Memᴰ·not-nil i)
 mark-free c (b ∷ bs) x i = go (λ j. mark-free c bs x j) (List·Memᴰ·cases-cons i)
   where
     go : (List·Memᴰ x (freeMarks c bs) → (k : ℕ) × (k < length bs) × (getD bs k 0 / 4 ≡ x .group) × (x .word ≡ freeMark c))
-        → (x ≡ mark (b / 4) (freeMark c)) ⊎ List·Memᴰ x (freeMarks c bs) → (k : ℕ) × (k < suc (length bs)) × (getD (b ∷ bs) k 0 / 4 ≡ x .group) × (x .word ≡ freeMark c)
+        → (x ≡ mark (b / 4) (freeMark c)) ⊎ List·Memᴰ x (freeMarks c bs)
+        → (k : ℕ) × (k < suc (length bs)) × (getD (b ∷ bs) k 0 / 4 ≡ x .group) × (x .word ≡ freeMark c)
     go rec (inl e) = (0, omega arith, sym (ap (λ (y : Mark). y .group) e), ap (λ (y : Mark). y .word) e)
     go rec (inr j) = let (k, l, g, e) = rec j in (suc k, omega arith, g, e)
 
@@ -77,9 +84,12 @@ unfolding chainMarks
 mark-chain base [] x i = absurd (List·Memᴰ·not-nil i)
 mark-chain base (bs ∷ fs) x i = go (λ j. mark-chain (suc base) fs x j) (List·Memᴰ·append-cases (freeMarks base bs) i)
   where
-    go : (List·Memᴰ x (chainMarks (suc base) fs) → (c k : ℕ) × (c < length fs) × (k < length (getD fs c [])) × (getD (getD fs c []) k 0 / 4 ≡ x .group) × (x .word ≡ freeMark (suc base + c)))
+    go : (List·Memᴰ x (chainMarks (suc base) fs)
+        → (c k : ℕ) × (c < length fs) × (k < length (getD fs c []))
+        × (getD (getD fs c []) k 0 / 4 ≡ x .group) × (x .word ≡ freeMark (suc base + c)))
         → List·Memᴰ x (freeMarks base bs) ⊎ List·Memᴰ x (chainMarks (suc base) fs)
-        → (c k : ℕ) × (c < suc (length fs)) × (k < length (getD (bs ∷ fs) c [])) × (getD (getD (bs ∷ fs) c []) k 0 / 4 ≡ x .group) × (x .word ≡ freeMark (base + c))
+        → (c k : ℕ) × (c < suc (length fs)) × (k < length (getD (bs ∷ fs) c []))
+        × (getD (getD (bs ∷ fs) c []) k 0 / 4 ≡ x .group) × (x .word ≡ freeMark (base + c))
     go rec (inl j) = let (k, l, g, e) = mark-free base bs x j in (0, k, omega arith, l, g, omega arith)
     go rec (inr j) = let (c, k, n, l, g, e) = rec j in (suc c, k, omega arith, l, g, omega arith)
 

@@ -5,10 +5,14 @@ use mathlib.Core.List.{List, [], _∷_, _++_, map}
 use lib.ListN.{set, take, drop, replicate}
 use Rattle.sizes.specs.Class.{classCount, classOf, sizeOf, sizeWord}
 use Rattle.words.specs.Runs.{filled, copied, stored}
-use Rattle.pool.specs.Numbers.{_orElse_, stateOf, handleAt, lengthAt, soundHandle, soundHead, given, tooLong, overLimit, entryNumber, entryNumber₂, badHead, noRoom, roomNumber, needsBlock, needNumber}
+use Rattle.pool.specs.Numbers.{_orElse_, stateOf, handleAt, lengthAt, soundHandle, soundHead, given, tooLong, overLimit}
+use Rattle.pool.specs.Numbers.{entryNumber, entryNumber₂, badHead, noRoom, roomNumber, needsBlock, needNumber}
 use Rattle.pool.specs.Blocks.{MAX, recycled, fresh, alloc, free, realloc, moved}
-use Rattle.audit.specs.Audit.{Audited, audit, auditNumber, verdict, accepted, swept, groupsAt, classAt, chainsMarked, chainMarked, handlesMarked, andThen, marked}
-use Rattle.pool.specs.Rules.{Outcome, done, refused, Call, push, extend, remove, truncate, growAt, called, unless, numberOf, doneOf, atNumber, pushDone, cleared, clearDone, lastRemoved, grown, opened, growNumber, extendDone, growAtNumber, growAtDone, removeNumber, removeDone, truncateNumber, truncateDone}
+use Rattle.audit.specs.Audit.{Audited, audit, auditNumber, verdict, accepted, swept, groupsAt, classAt}
+use Rattle.audit.specs.Audit.{chainsMarked, chainMarked, handlesMarked, andThen, marked}
+use Rattle.pool.specs.Rules.{Outcome, done, refused, Call, push, extend, remove, truncate, growAt, called, unless, numberOf, doneOf}
+use Rattle.pool.specs.Rules.{atNumber, pushDone, cleared, clearDone, lastRemoved, grown, opened, growNumber, extendDone}
+use Rattle.pool.specs.Rules.{growAtNumber, growAtDone, removeNumber, removeDone, truncateNumber, truncateDone}
 
 -- "One 16-word cleared pool, three slots": n words and three slots, cleared
 unfoldable pub clearedPool : ℕ → Outcome
@@ -110,5 +114,9 @@ table =
 
 -- every row is what the rules give
 pub sheet : map computed table ≡ table
-unfolding table computed audit auditNumber verdict accepted swept groupsAt classAt chainsMarked chainMarked handlesMarked andThen marked called unless numberOf doneOf atNumber pushDone cleared clearDone lastRemoved grown opened growNumber extendDone growAtNumber growAtDone removeNumber removeDone truncateNumber truncateDone _orElse_ lengthAt soundHandle soundHead given tooLong overLimit entryNumber entryNumber₂ badHead noRoom roomNumber needsBlock needNumber recycled fresh alloc free realloc moved filled copied stored classOf sizeOf sizeWord
+unfolding table computed audit auditNumber verdict accepted swept groupsAt classAt chainsMarked chainMarked handlesMarked andThen marked
+    called unless numberOf doneOf atNumber pushDone cleared clearDone lastRemoved grown opened growNumber extendDone
+    growAtNumber growAtDone removeNumber removeDone truncateNumber truncateDone
+    _orElse_ lengthAt soundHandle soundHead given tooLong overLimit entryNumber entryNumber₂ badHead noRoom roomNumber needsBlock needNumber
+    recycled fresh alloc free realloc moved filled copied stored classOf sizeOf sizeWord
 sheet = refl

@@ -202,7 +202,8 @@ module _ (ws : List ℕ) where
       go rec (inr (z, r)) = let (a, b) = rec next r in (omega arith, omega arith)
 
   -- A sweep that passes: from the next block's start up to the end every word is covered once, and no other word is.
-  pub swept-over : (i g next rest : ℕ) (vs : List ℕ) → swept ws g next vs ≡ true → next + rest ≡ g + length vs → mapOver ws i g vs ≡ over (next * 4) (rest * 4) i
+  pub swept-over : (i g next rest : ℕ) (vs : List ℕ) → swept ws g next vs ≡ true → next + rest ≡ g + length vs
+      → mapOver ws i g vs ≡ over (next * 4) (rest * 4) i
   unfolding swept mapOver
   swept-over i g next rest [] e n = let s = eqb-true g next e in sym (over-empty (next * 4) (rest * 4) i (omega arith))
   swept-over i g next rest (v ∷ vs) e n = go (λ k r. swept-over i (suc g) k r vs) (swept-step g next v vs e)

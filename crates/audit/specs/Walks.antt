@@ -40,7 +40,8 @@ cond-some : (t : Bool) {o : Option (List ℕ)} {m : List ℕ} → cond t o none 
 cond-some true e = (refl, e)
 cond-some false e = absurd (Option·none-ne-some _ e)
 
-then-some : (o : Option (List ℕ)) (next : List ℕ → Option (List ℕ)) (m′ : List ℕ) → andThen o next ≡ some m′ ↔ ((m : List ℕ) × (o ≡ some m) × (next m ≡ some m′))
+then-some : (o : Option (List ℕ)) (next : List ℕ → Option (List ℕ)) (m′ : List ℕ)
+    → andThen o next ≡ some m′ ↔ ((m : List ℕ) × (o ≡ some m) × (next m ≡ some m′))
 unfolding andThen
 then-some none next m′ = (λ e. absurd (Option·none-ne-some _ e), λ (m, e, d). absurd (Option·none-ne-some _ e))
 then-some (some m) next m′ = (λ e. (m, refl, e), λ (k, e, d). ap next (cc) ∙ d)
@@ -104,7 +105,8 @@ module _ (used : ℕ) (ws : List ℕ) where
           let (bs, C, a) = rec (set m (groupOf h) (freeMark c)) d in
           ((h - 1) ∷ bs, (omega arith, s, C), (z, a))
 
-  made-chain : (most c h : ℕ) (bs m m′ : List ℕ) → Chain used ws c h bs → length bs ≤ most → Made (freeMarks c bs) m m′ → chainMarked used ws most c h m ≡ some m′
+  made-chain : (most c h : ℕ) (bs m m′ : List ℕ) → Chain used ws c h bs → length bs ≤ most
+      → Made (freeMarks c bs) m m′ → chainMarked used ws most c h m ≡ some m′
   unfolding chainMarked freeMarks
   made-chain zero c h [] m m′ C l a = rw (eq-eqb h 0 C) (ap some (sym a))
   made-chain (suc most) c h [] m m′ C l a = rw (eq-eqb h 0 C) (ap some (sym a))
@@ -119,7 +121,8 @@ module _ (used : ℕ) (ws : List ℕ) where
   abbrev pub Chains : (ℕ → ℕ) → List ℕ → List (List ℕ) → Type 0
   Chains f heads fs = (k : ℕ) → Chain used ws (f k) (getD heads k 0) (getD fs k [])
 
-  chains-cons : (f : ℕ → ℕ) (h : ℕ) (heads : List ℕ) (bs : List ℕ) (fs : List (List ℕ)) → Chain used ws (f 0) h bs → Chains (λ k. f (suc k)) heads fs → Chains f (h ∷ heads) (bs ∷ fs)
+  chains-cons : (f : ℕ → ℕ) (h : ℕ) (heads : List ℕ) (bs : List ℕ) (fs : List (List ℕ))
+      → Chain used ws (f 0) h bs → Chains (λ k. f (suc k)) heads fs → Chains f (h ∷ heads) (bs ∷ fs)
   chains-cons f h heads bs fs C D zero = C
   chains-cons f h heads bs fs C D (suc k) = D k
 
@@ -135,7 +138,8 @@ module _ (used : ℕ) (ws : List ℕ) where
       let z : f 0 ≡ c = omega (arith, n 0) in
       (bs ∷ fs, ap suc l, chains-cons f h heads bs fs (rw z C) D, made-append (freeMarks c bs) (chainMarks (suc c) fs) m m′ .1 (k, a, b))
 
-  made-chains : (f : ℕ → ℕ) (c : ℕ) (heads : List ℕ) (fs : List (List ℕ)) (m m′ : List ℕ) → ((k : ℕ) → f k ≡ c + k) → length fs ≡ length heads → Chains f heads fs
+  made-chains : (f : ℕ → ℕ) (c : ℕ) (heads : List ℕ) (fs : List (List ℕ)) (m m′ : List ℕ)
+      → ((k : ℕ) → f k ≡ c + k) → length fs ≡ length heads → Chains f heads fs
       → ((k : ℕ) → length (getD fs k []) ≤ used / 4) → Made (chainMarks c fs) m m′ → chainsMarked used ws c heads m ≡ some m′
   unfolding chainsMarked chainMarks
   made-chains f c [] [] m m′ n e C l a = ap some (sym a)
@@ -181,7 +185,8 @@ accepted-says st ws hs m m′ e =
     let y′ = made-append (liveMarks 0 hs) (chainMarks 0 fs) m m′ .1 (k, x, y) in
     (fs, record { walked = record { classes = l; handles = h; chains = C }; made = y′; sweeps = rw same at t })
 
-pub accepted-when : (st : ListPool) (ws hs : List ℕ) (fs : List (List ℕ)) (m m′ : List ℕ) → Accepted st ws hs fs m m′ → ((c : ℕ) → length (getD fs c []) ≤ st .used / 4)
+pub accepted-when : (st : ListPool) (ws hs : List ℕ) (fs : List (List ℕ)) (m m′ : List ℕ)
+    → Accepted st ws hs fs m m′ → ((c : ℕ) → length (getD fs c []) ≤ st .used / 4)
     → accepted st ws hs m ≡ some m′
 unfolding accepted
 accepted-when st ws hs fs m m′ A l =
@@ -189,5 +194,9 @@ accepted-when st ws hs fs m m′ A l =
     then-some _ _ m′ .1 (
       k,
       made-handles (st .used) ws 0 hs m k (A .walked .handles) x,
-      then-some _ _ m′ .1 (m′, made-chains (st .used) ws (λ c. c) 0 (st .heads) fs k m′ (λ c. omega arith) (A .walked .classes) (A .walked .chains) l y, rw (A .sweeps)),
+      then-some _ _ m′ .1 (
+        m′,
+        made-chains (st .used) ws (λ c. c) 0 (st .heads) fs k m′ (λ c. omega arith) (A .walked .classes) (A .walked .chains) l y,
+        rw (A .sweeps),
+      ),
     )

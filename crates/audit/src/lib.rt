@@ -1,4 +1,4 @@
-// The audit: given any pool, heads and handles, it says whether the pool is sound, and whose block each group of four words is.
+// The audit: given any pool, heads and handles, it says whether the pool is sound, and in which block each group of four words lies.
 ghost use mathlib.Core.Path.{_≡_};
 ghost use Prim.Native.Nat.{_+_, _*_, _/_, _^_, _≤_, _<_};
 ghost use lib.ListN.{length, take};
@@ -15,7 +15,7 @@ use sizes::SizeClass;
 // What a free block's mark adds to its class.
 const FREE: u32 = 2147483648;
 
-// Marks the block before a handle or pointer at its first group; false where that group is marked already.
+// Marks the block before a handle or pointer at its first group; returns false where that group is marked already.
 fn mark(map: &mut [u32], h: u32, word: u32) -> bool
     requires { ⌜ (1 ≤ h) × (rules.groupOf h < length (now map)) ⌝ }
     ensures { λ r. ⌜ Passed (rules.groupOf h + 1) (rules.marked h word (now (map .entry))) (now (map .entry)) (now (map .exit)) r ⌝ }
@@ -28,10 +28,12 @@ fn mark(map: &mut [u32], h: u32, word: u32) -> bool
     true
 }
 
-// Judges every handle of the table and marks its block; false where one is not sound, or its block was met before.
+// Judges every handle of the table and marks its block; returns false where one is not sound, or its block was met before.
 fn mark_handles(used: usize, pool: &[u32], handles: &[u32], map: &mut [u32]) -> bool
     requires { ⌜ (used ≤ 4 * length (now map)) × (length (now handles) ≤ tableLimit) ⌝ }
-    ensures { λ r. ⌜ Passed (used / 4) (rules.handlesMarked used (now (pool .entry)) 0 (now (handles .entry)) (now (map .entry))) (now (map .entry)) (now (map .exit)) r ⌝ }
+    ensures { λ r. ⌜ Passed (used / 4)
+        (rules.handlesMarked used (now (pool .entry)) 0 (now (handles .entry)) (now (map .entry)))
+        (now (map .entry)) (now (map .exit)) r ⌝ }
 {
     let mut slot = 0;
     while slot < handles.len() {
@@ -49,11 +51,13 @@ fn mark_handles(used: usize, pool: &[u32], handles: &[u32], map: &mut [u32]) -> 
     true
 }
 
-// Follows the chain of the class c from its head, judges every pointer and marks its block; false where one is not sound, its block was met before,
-// or the chain has more blocks than there are groups.
+// Follows the chain of the class c from its head, judges every pointer and marks its block; returns false where one is not sound, its block was met
+// before, or the chain has more blocks than there are groups.
 fn mark_chain(used: usize, pool: &[u32], c: u32, head: u32, map: &mut [u32]) -> bool
     requires { ⌜ (used ≤ length (now pool)) × (used ≤ 4 * length (now map)) × (c < classCount) ⌝ }
-    ensures { λ r. ⌜ Passed (used / 4) (rules.chainMarked used (now (pool .entry)) (used / 4) c head (now (map .entry))) (now (map .entry)) (now (map .exit)) r ⌝ }
+    ensures { λ r. ⌜ Passed (used / 4)
+        (rules.chainMarked used (now (pool .entry)) (used / 4) c head (now (map .entry)))
+        (now (map .entry)) (now (map .exit)) r ⌝ }
 {
     let mut left = used / 4;
     let mut h = head;
@@ -73,10 +77,12 @@ fn mark_chain(used: usize, pool: &[u32], c: u32, head: u32, map: &mut [u32]) -> 
     true
 }
 
-// Follows the chain of every class.
+// Follows the chain of every class, and returns false where one is refused.
 fn mark_chains(used: usize, heads: &[u32; SizeClass::COUNT], pool: &[u32], map: &mut [u32]) -> bool
     requires { ⌜ (length (now heads) ≡ classCount) × (used ≤ length (now pool)) × (used ≤ 4 * length (now map)) ⌝ }
-    ensures { λ r. ⌜ Passed (used / 4) (rules.chainsMarked used (now (pool .entry)) 0 (now (heads .entry)) (now (map .entry))) (now (map .entry)) (now (map .exit)) r ⌝ }
+    ensures { λ r. ⌜ Passed (used / 4)
+        (rules.chainsMarked used (now (pool .entry)) 0 (now (heads .entry)) (now (map .entry)))
+        (now (map .entry)) (now (map .exit)) r ⌝ }
 {
     let mut i = 0;
     while i < SizeClass::COUNT {
@@ -88,7 +94,7 @@ fn mark_chains(used: usize, heads: &[u32; SizeClass::COUNT], pool: &[u32], map: 
     true
 }
 
-// How many groups the block has that starts at a group and is marked so.
+// Returns how many groups the block has that starts at the group g and is marked with the word.
 fn groups_at(pool: &[u32], g: usize, word: u32) -> usize
     requires { ⌜ g * 4 < length (now pool) ⌝ }
     ensures { λ r. ⌜ (r ≡ rules.groupsAt (now (pool .entry)) g word) × (r ≤ 2 ^ 61) ⌝ }
@@ -99,7 +105,7 @@ fn groups_at(pool: &[u32], g: usize, word: u32) -> usize
     SizeClass::size(word - FREE) / 4
 }
 
-// Do the marked blocks follow one another without gap or overlap, up to the last of the groups?
+// Returns whether the marked blocks follow one another without gap or overlap, up to the last of the groups.
 fn swept(pool: &[u32], map: &[u32], groups: usize) -> bool
     requires { ⌜ (groups * 4 ≤ length (now pool)) × (groups ≤ length (now map)) × (length (now pool) ≤ poolLimit) ⌝ }
     ensures { λ r. ⌜ r ≡ rules.swept (now (pool .entry)) 0 0 (take groups (now (map .entry))) ⌝ }
@@ -121,7 +127,7 @@ fn swept(pool: &[u32], map: &[u32], groups: usize) -> bool
     g == next
 }
 
-// Is the pool sound? Then the map, of which the first groups are 0 at entry, has the marks of its blocks.
+// Returns whether the pool is sound; the map, of which the first groups are 0 at entry, then has the marks of its blocks.
 fn accepted(
     used: u32,
     heads: &[u32; SizeClass::COUNT],
@@ -129,8 +135,11 @@ fn accepted(
     handles: &[u32],
     map: &mut [u32],
 ) -> bool
-    requires { ⌜ (length (now heads) ≡ classCount) × (used ≤ length (now pool)) × (length (now pool) ≤ poolLimit) × (length (now handles) ≤ tableLimit) × (used ≤ 4 * length (now map)) ⌝ }
-    ensures { λ r. ⌜ Passed (used / 4) (rules.accepted (stateOf used (now (heads .entry))) (now (pool .entry)) (now (handles .entry)) (now (map .entry))) (now (map .entry)) (now (map .exit)) r ⌝ }
+    requires { ⌜ (length (now heads) ≡ classCount) × (used ≤ length (now pool)) × (length (now pool) ≤ poolLimit)
+        × (length (now handles) ≤ tableLimit) × (used ≤ 4 * length (now map)) ⌝ }
+    ensures { λ r. ⌜ Passed (used / 4)
+        (rules.accepted (stateOf used (now (heads .entry))) (now (pool .entry)) (now (handles .entry)) (now (map .entry)))
+        (now (map .entry)) (now (map .exit)) r ⌝ }
 {
     let words = used as usize;
     if !mark_handles(words, pool, handles, map) {
@@ -142,6 +151,7 @@ fn accepted(
     swept(pool, map, words / 4)
 }
 
+// Answers with a number, the value 0, and the state as it was.
 fn answered(state: ListPool, number: u32) -> Answer
     ensures { λ r. ⌜ r ≡ answer number 0 state ⌝ }
 {
@@ -152,8 +162,8 @@ fn answered(state: ListPool, number: u32) -> Answer
     }
 }
 
-// Audits a pool: 0 where it is sound, and then the map says at each block's first group of four words its slot + 1, or 2,147,483,648 + its class where
-// it is free, and 0 at its other groups; 9 where it is not, and then the map's first used / 4 words are 0.
+// Audits a pool. Answers 0 where it is sound, and then the map says at each block's first group of four words its slot + 1, or 2,147,483,648 + its
+// class where it is free, and 0 at its other groups; answers 9 where it is not sound, and then the map's first used / 4 words are 0.
 pub fn audit(state: ListPool, pool: &[u32], handles: &[u32], map: &mut [u32]) -> Answer
     ensures { λ r. ⌜ rules.audited r (now (map .exit)) ≡ rules.audit state (now (pool .entry)) (now (handles .entry)) (now (map .entry)) ⌝ }
 {

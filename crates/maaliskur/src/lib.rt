@@ -21,12 +21,13 @@ pub extern "C" fn maaliskur_from_slice(
     slot: usize,
     elements: &[u32],
 ) -> Answer
-    ensures { λ r. ⌜ outcome r (now (pool .exit)) (now (handles .exit)) ≡ called (rules.fromSlice slot (now (elements .entry))) state (now (pool .entry)) (now (handles .entry)) ⌝ }
+    ensures { λ r. ⌜ outcome r (now (pool .exit)) (now (handles .exit))
+        ≡ called (rules.fromSlice slot (now (elements .entry))) state (now (pool .entry)) (now (handles .entry)) ⌝ }
 {
     state.from_slice(pool, handles, slot, elements)
 }
 
-// Is the list in a slot empty? The value is 1 where it is, else 0.
+// Tells whether the list in a slot is empty: the value is 1 where it is, else 0.
 #[no_mangle]
 pub extern "C" fn maaliskur_is_empty(
     state: ListPool,
@@ -34,12 +35,13 @@ pub extern "C" fn maaliskur_is_empty(
     handles: &[u32],
     slot: usize,
 ) -> Answer
-    ensures { λ r. ⌜ outcome r (now (pool .entry)) (now (handles .entry)) ≡ called (rules.isEmpty slot) state (now (pool .entry)) (now (handles .entry)) ⌝ }
+    ensures { λ r. ⌜ outcome r (now (pool .entry)) (now (handles .entry))
+        ≡ called (rules.isEmpty slot) state (now (pool .entry)) (now (handles .entry)) ⌝ }
 {
     state.is_empty(pool, handles, slot)
 }
 
-// The number of elements of the list in a slot.
+// Gives the number of elements of the list in a slot.
 #[no_mangle]
 pub extern "C" fn maaliskur_len(
     state: ListPool,
@@ -47,12 +49,13 @@ pub extern "C" fn maaliskur_len(
     handles: &[u32],
     slot: usize,
 ) -> Answer
-    ensures { λ r. ⌜ outcome r (now (pool .entry)) (now (handles .entry)) ≡ called (rules.len slot) state (now (pool .entry)) (now (handles .entry)) ⌝ }
+    ensures { λ r. ⌜ outcome r (now (pool .entry)) (now (handles .entry))
+        ≡ called (rules.len slot) state (now (pool .entry)) (now (handles .entry)) ⌝ }
 {
     state.len(pool, handles, slot)
 }
 
-// Is the list in a slot valid? The value is 1, and a handle that is not locally sound is refused.
+// Tells whether the list in a slot is valid: the value is 1, and a handle that is not locally sound is refused.
 #[no_mangle]
 pub extern "C" fn maaliskur_is_valid(
     state: ListPool,
@@ -60,12 +63,13 @@ pub extern "C" fn maaliskur_is_valid(
     handles: &[u32],
     slot: usize,
 ) -> Answer
-    ensures { λ r. ⌜ outcome r (now (pool .entry)) (now (handles .entry)) ≡ called (rules.isValid slot) state (now (pool .entry)) (now (handles .entry)) ⌝ }
+    ensures { λ r. ⌜ outcome r (now (pool .entry)) (now (handles .entry))
+        ≡ called (rules.isValid slot) state (now (pool .entry)) (now (handles .entry)) ⌝ }
 {
     state.is_valid(pool, handles, slot)
 }
 
-// Where the elements of the list in a slot lie: C's form of `as_slice` and `as_mut_slice`.
+// Returns where the elements of the list in a slot lie: C's form of `as_slice` and `as_mut_slice`.
 #[no_mangle]
 pub extern "C" fn maaliskur_part(
     state: ListPool,
@@ -78,7 +82,7 @@ pub extern "C" fn maaliskur_part(
     state.part(pool, handles, slot)
 }
 
-// The element at a position of the list in a slot.
+// Gives the element at a position of the list in a slot.
 #[no_mangle]
 pub extern "C" fn maaliskur_get(
     state: ListPool,
@@ -87,12 +91,13 @@ pub extern "C" fn maaliskur_get(
     slot: usize,
     position: usize,
 ) -> Answer
-    ensures { λ r. ⌜ outcome r (now (pool .entry)) (now (handles .entry)) ≡ called (rules.get slot position) state (now (pool .entry)) (now (handles .entry)) ⌝ }
+    ensures { λ r. ⌜ outcome r (now (pool .entry)) (now (handles .entry))
+        ≡ called (rules.get slot position) state (now (pool .entry)) (now (handles .entry)) ⌝ }
 {
     state.get(pool, handles, slot, position)
 }
 
-// The first element of the list in a slot.
+// Gives the first element of the list in a slot.
 #[no_mangle]
 pub extern "C" fn maaliskur_first(
     state: ListPool,
@@ -100,7 +105,8 @@ pub extern "C" fn maaliskur_first(
     handles: &[u32],
     slot: usize,
 ) -> Answer
-    ensures { λ r. ⌜ outcome r (now (pool .entry)) (now (handles .entry)) ≡ called (rules.first slot) state (now (pool .entry)) (now (handles .entry)) ⌝ }
+    ensures { λ r. ⌜ outcome r (now (pool .entry)) (now (handles .entry))
+        ≡ called (rules.first slot) state (now (pool .entry)) (now (handles .entry)) ⌝ }
 {
     state.first(pool, handles, slot)
 }
@@ -115,23 +121,25 @@ pub extern "C" fn maaliskur_set(
     position: usize,
     element: u32,
 ) -> Answer
-    ensures { λ r. ⌜ outcome r (now (pool .exit)) (now (handles .entry)) ≡ called (rules.setAt slot position element) state (now (pool .entry)) (now (handles .entry)) ⌝ }
+    ensures { λ r. ⌜ outcome r (now (pool .exit)) (now (handles .entry))
+        ≡ called (rules.setAt slot position element) state (now (pool .entry)) (now (handles .entry)) ⌝ }
 {
     state.set(pool, handles, slot, position, element)
 }
 
-// Puts a copy of the list in the slot `from` into the empty slot `to`.
+// Puts a copy of the list in a slot into the empty slot `to`.
 #[no_mangle]
 pub extern "C" fn maaliskur_deep_clone(
     state: ListPool,
     pool: &mut [u32],
     handles: &mut [u32],
-    from: usize,
+    slot: usize,
     to: usize,
 ) -> Answer
-    ensures { λ r. ⌜ outcome r (now (pool .exit)) (now (handles .exit)) ≡ called (rules.deepClone from to) state (now (pool .entry)) (now (handles .entry)) ⌝ }
+    ensures { λ r. ⌜ outcome r (now (pool .exit)) (now (handles .exit))
+        ≡ called (rules.deepClone slot to) state (now (pool .entry)) (now (handles .entry)) ⌝ }
 {
-    state.deep_clone(pool, handles, from, to)
+    state.deep_clone(pool, handles, slot, to)
 }
 
 // Removes all elements from the list in a slot, and gives its block back.
@@ -142,23 +150,25 @@ pub extern "C" fn maaliskur_clear(
     handles: &mut [u32],
     slot: usize,
 ) -> Answer
-    ensures { λ r. ⌜ outcome r (now (pool .exit)) (now (handles .exit)) ≡ called (rules.clear slot) state (now (pool .entry)) (now (handles .entry)) ⌝ }
+    ensures { λ r. ⌜ outcome r (now (pool .exit)) (now (handles .exit))
+        ≡ called (rules.clear slot) state (now (pool .entry)) (now (handles .entry)) ⌝ }
 {
     state.clear(pool, handles, slot)
 }
 
-// Moves the list in the slot `from` to the empty slot `to`.
+// Moves the list in a slot to the empty slot `to`.
 #[no_mangle]
 pub extern "C" fn maaliskur_take(
     state: ListPool,
     pool: &[u32],
     handles: &mut [u32],
-    from: usize,
+    slot: usize,
     to: usize,
 ) -> Answer
-    ensures { λ r. ⌜ outcome r (now (pool .entry)) (now (handles .exit)) ≡ called (rules.take from to) state (now (pool .entry)) (now (handles .entry)) ⌝ }
+    ensures { λ r. ⌜ outcome r (now (pool .entry)) (now (handles .exit))
+        ≡ called (rules.take slot to) state (now (pool .entry)) (now (handles .entry)) ⌝ }
 {
-    state.take(pool, handles, from, to)
+    state.take(pool, handles, slot, to)
 }
 
 // Appends an element to the list in a slot; the value is the old length.
@@ -170,7 +180,8 @@ pub extern "C" fn maaliskur_push(
     slot: usize,
     element: u32,
 ) -> Answer
-    ensures { λ r. ⌜ outcome r (now (pool .exit)) (now (handles .exit)) ≡ called (rules.push slot element) state (now (pool .entry)) (now (handles .entry)) ⌝ }
+    ensures { λ r. ⌜ outcome r (now (pool .exit)) (now (handles .exit))
+        ≡ called (rules.push slot element) state (now (pool .entry)) (now (handles .entry)) ⌝ }
 {
     state.push(pool, handles, slot, element)
 }
@@ -184,26 +195,28 @@ pub extern "C" fn maaliskur_extend(
     slot: usize,
     elements: &[u32],
 ) -> Answer
-    ensures { λ r. ⌜ outcome r (now (pool .exit)) (now (handles .exit)) ≡ called (rules.extend slot (now (elements .entry))) state (now (pool .entry)) (now (handles .entry)) ⌝ }
+    ensures { λ r. ⌜ outcome r (now (pool .exit)) (now (handles .exit))
+        ≡ called (rules.extend slot (now (elements .entry))) state (now (pool .entry)) (now (handles .entry)) ⌝ }
 {
     state.extend(pool, handles, slot, elements)
 }
 
-// Copies the elements from start to end of the list in the slot `source` into the list in the slot `target`, at a position.
+// Copies the elements from start to end of the list in the slot `source` into the list in a slot, at a position.
 #[no_mangle]
 pub extern "C" fn maaliskur_copy_from(
     state: ListPool,
     pool: &mut [u32],
     handles: &mut [u32],
-    target: usize,
+    slot: usize,
     source: usize,
     start: usize,
     end: usize,
     position: usize,
 ) -> Answer
-    ensures { λ r. ⌜ outcome r (now (pool .exit)) (now (handles .exit)) ≡ called (rules.copyFrom target source start end position) state (now (pool .entry)) (now (handles .entry)) ⌝ }
+    ensures { λ r. ⌜ outcome r (now (pool .exit)) (now (handles .exit))
+        ≡ called (rules.copyFrom slot source start end position) state (now (pool .entry)) (now (handles .entry)) ⌝ }
 {
-    state.copy_from(pool, handles, target, source, start, end, position)
+    state.copy_from(pool, handles, slot, source, start, end, position)
 }
 
 // Puts an element at a position of the list in a slot; those from there on shift up.
@@ -216,7 +229,8 @@ pub extern "C" fn maaliskur_insert(
     position: usize,
     element: u32,
 ) -> Answer
-    ensures { λ r. ⌜ outcome r (now (pool .exit)) (now (handles .exit)) ≡ called (rules.insert slot position element) state (now (pool .entry)) (now (handles .entry)) ⌝ }
+    ensures { λ r. ⌜ outcome r (now (pool .exit)) (now (handles .exit))
+        ≡ called (rules.insert slot position element) state (now (pool .entry)) (now (handles .entry)) ⌝ }
 {
     state.insert(pool, handles, slot, position, element)
 }
@@ -230,7 +244,8 @@ pub extern "C" fn maaliskur_remove(
     slot: usize,
     position: usize,
 ) -> Answer
-    ensures { λ r. ⌜ outcome r (now (pool .exit)) (now (handles .exit)) ≡ called (rules.remove slot position) state (now (pool .entry)) (now (handles .entry)) ⌝ }
+    ensures { λ r. ⌜ outcome r (now (pool .exit)) (now (handles .exit))
+        ≡ called (rules.remove slot position) state (now (pool .entry)) (now (handles .entry)) ⌝ }
 {
     state.remove(pool, handles, slot, position)
 }
@@ -244,7 +259,8 @@ pub extern "C" fn maaliskur_swap_remove(
     slot: usize,
     position: usize,
 ) -> Answer
-    ensures { λ r. ⌜ outcome r (now (pool .exit)) (now (handles .exit)) ≡ called (rules.swapRemove slot position) state (now (pool .entry)) (now (handles .entry)) ⌝ }
+    ensures { λ r. ⌜ outcome r (now (pool .exit)) (now (handles .exit))
+        ≡ called (rules.swapRemove slot position) state (now (pool .entry)) (now (handles .entry)) ⌝ }
 {
     state.swap_remove(pool, handles, slot, position)
 }
@@ -258,7 +274,8 @@ pub extern "C" fn maaliskur_truncate(
     slot: usize,
     length: usize,
 ) -> Answer
-    ensures { λ r. ⌜ outcome r (now (pool .exit)) (now (handles .exit)) ≡ called (rules.truncate slot length) state (now (pool .entry)) (now (handles .entry)) ⌝ }
+    ensures { λ r. ⌜ outcome r (now (pool .exit)) (now (handles .exit))
+        ≡ called (rules.truncate slot length) state (now (pool .entry)) (now (handles .entry)) ⌝ }
 {
     state.truncate(pool, handles, slot, length)
 }
@@ -273,7 +290,8 @@ pub extern "C" fn maaliskur_grow_at(
     position: usize,
     count: usize,
 ) -> Answer
-    ensures { λ r. ⌜ outcome r (now (pool .exit)) (now (handles .exit)) ≡ called (rules.growAt slot position count) state (now (pool .entry)) (now (handles .entry)) ⌝ }
+    ensures { λ r. ⌜ outcome r (now (pool .exit)) (now (handles .exit))
+        ≡ called (rules.growAt slot position count) state (now (pool .entry)) (now (handles .entry)) ⌝ }
 {
     state.grow_at(pool, handles, slot, position, count)
 }
@@ -281,12 +299,13 @@ pub extern "C" fn maaliskur_grow_at(
 // Clears the pool: nothing is used, no block is free, and every list is empty. No word of the pool is touched.
 #[no_mangle]
 pub extern "C" fn maaliskur_clear_pool(state: ListPool, pool: &[u32], handles: &mut [u32]) -> Answer
-    ensures { λ r. ⌜ outcome r (now (pool .entry)) (now (handles .exit)) ≡ called (rules.clearPool) state (now (pool .entry)) (now (handles .entry)) ⌝ }
+    ensures { λ r. ⌜ outcome r (now (pool .entry)) (now (handles .exit))
+        ≡ called (rules.clearPool) state (now (pool .entry)) (now (handles .entry)) ⌝ }
 {
     state.clear_pool(pool, handles)
 }
 
-// Audits a pool: 0 where it is sound, with a map of its blocks; 9 where it is not.
+// Audits a pool: answers 0 where it is sound, with a map of its blocks, and 9 where it is not.
 #[no_mangle]
 pub extern "C" fn maaliskur_audit(
     state: ListPool,
@@ -299,7 +318,7 @@ pub extern "C" fn maaliskur_audit(
     audit::audit(state, pool, handles, map)
 }
 
-// The class of a list of a length.
+// Returns the class of a list of a length.
 #[no_mangle]
 pub extern "C" fn maaliskur_class(length: u32) -> u32
     ensures { λ r. ⌜ ClassOf length r ⌝ }
@@ -307,7 +326,7 @@ pub extern "C" fn maaliskur_class(length: u32) -> u32
     SizeClass::for_length(length)
 }
 
-// The words in a block of a class; 0 for a class whose size no 32-bit word holds.
+// Returns how many words a block of a class has; 0 for a class whose size no 32-bit word holds.
 #[no_mangle]
 pub extern "C" fn maaliskur_size(class: u32) -> u32
     ensures { λ r. ⌜ r ≡ sizeFits class ⌝ }

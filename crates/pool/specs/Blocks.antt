@@ -57,11 +57,11 @@ realloc st ws block from to n =
     let f = free (a .state) (copied (a .words) block (a .block) n) block from in
     record { block = a .block; state = f .state; words = f .words }
 
--- The block for b elements of the list at h, which has a: where one is needed, a new one for an empty list, and else another one
+-- The block for the new length of the list at h, which has the old one: where one is needed, a new one for an empty list, and else another one
 -- with the length and the elements that both have copied ("copying length + 1 words" up, "old-length words" or "new length + 1" down);
 -- where none is needed, the list's own.
 unfoldable pub moved : ListPool → List ℕ → ℕ → ℕ → ℕ → Taken
-moved st ws h a b =
-    cond (needsBlock a b)
-    (cond (eqb a 0) (alloc st ws (classOf b)) (realloc st ws (h - 1) (classOf a) (classOf b) (min a b + 1)))
+moved st ws h old new =
+    cond (needsBlock old new)
+    (cond (eqb old 0) (alloc st ws (classOf new)) (realloc st ws (h - 1) (classOf old) (classOf new) (min old new + 1)))
     (record { block = h - 1; state = st; words = ws })

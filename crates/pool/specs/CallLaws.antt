@@ -26,42 +26,43 @@ seated-meets p value m hs slot n inside ends e f g =
     }
 
 -- push meets its rule, in the block that the list ends in: its own, or one that was taken
-pub push-meets : (p : ℕ) (st : ListPool) (ws hs : List ℕ) (slot x len : ℕ) (m : Taken) {r : Answer} {after tabled : List ℕ} → slot < length hs
-    → len ≡ lenOf ws hs slot → m ≡ moved st ws (handleAt hs slot) len (len + 1) → m .block + (len + 1 + 1) ≤ p
-    → r ≡ answer 0 len (m .state) → after ≡ set (set (m .words) (m .block + (len + 1)) x) (m .block) (len + 1) → tabled ≡ set hs slot (m .block + 1)
+pub push-meets : (p : ℕ) (st : ListPool) (ws hs : List ℕ) (slot x old : ℕ) (m : Taken) {r : Answer} {after tabled : List ℕ} → slot < length hs
+    → old ≡ lenOf ws hs slot → m ≡ moved st ws (handleAt hs slot) old (old + 1) → m .block + (old + 1 + 1) ≤ p
+    → r ≡ answer 0 old (m .state) → after ≡ set (set (m .words) (m .block + (old + 1)) x) (m .block) (old + 1) → tabled ≡ set hs slot (m .block + 1)
     → Meets p (pushDone st ws hs slot x) slot (lenOf ws hs slot + 1) r after tabled
 unfolding pushDone
-push-meets p st ws hs slot x len m inside l e ends re ae te =
+push-meets p st ws hs slot x old m inside l e ends re ae te =
     rw (← l, ← e)
-    (seated-meets p len (record { block = m .block; state = m .state; words = set (m .words) (m .block + (len + 1)) x }) hs slot (len + 1) inside ends re ae te)
+    (seated-meets p old (record { block = m .block; state = m .state; words = set (m .words) (m .block + (old + 1)) x }) hs slot (old + 1) inside ends re ae te)
 
 -- a resize meets its rule: the list gives its block up
-pub released-meets : (p : ℕ) (st : ListPool) (ws hs : List ℕ) (slot h n b : ℕ) {r : Answer} {after tabled : List ℕ} → slot < length hs → b ≡ 0 → 1 ≤ h
-    → outcome r after tabled ≡ cleared st ws hs slot h n → Meets p (resized st ws hs slot h n b) slot b r after tabled
+pub released-meets : (p : ℕ) (st : ListPool) (ws hs : List ℕ) (slot h old new : ℕ) {r : Answer} {after tabled : List ℕ} → slot < length hs → new ≡ 0 → 1 ≤ h
+    → outcome r after tabled ≡ cleared st ws hs slot h old → Meets p (resized st ws hs slot h old new) slot new r after tabled
 unfolding resized cleared
-released-meets p st ws hs slot h n b inside none some e =
+released-meets p st ws hs slot h old new inside none some e =
     record {
-      is = rw (eq-eqb b 0 none) e;
+      is = rw (eq-eqb new 0 none) e;
       ends = rw (ap (λ (o : Outcome). o .handles) e, ne-eqb h 0 (omega arith), getD-set-same hs slot 0 0 inside, none) (omega arith);
     }
 
 -- or it gets at least one element, in the block that it ends in
-pub resized-meets : (p : ℕ) (st : ListPool) (ws hs : List ℕ) (slot h n b : ℕ) (m : Taken) {r : Answer} {after tabled : List ℕ} → slot < length hs → (b ≡ 0 → ⊥)
-    → m ≡ moved st ws h n b → m .block + (b + 1) ≤ p
-    → r ≡ answer 0 0 (m .state) → after ≡ set (m .words) (m .block) b → tabled ≡ set hs slot (m .block + 1)
-    → Meets p (resized st ws hs slot h n b) slot b r after tabled
+pub resized-meets : (p : ℕ) (st : ListPool) (ws hs : List ℕ) (slot h old new : ℕ) (m : Taken) {r : Answer} {after tabled : List ℕ}
+    → slot < length hs → (new ≡ 0 → ⊥)
+    → m ≡ moved st ws h old new → m .block + (new + 1) ≤ p
+    → r ≡ answer 0 0 (m .state) → after ≡ set (m .words) (m .block) new → tabled ≡ set hs slot (m .block + 1)
+    → Meets p (resized st ws hs slot h old new) slot new r after tabled
 unfolding resized
-resized-meets p st ws hs slot h n b m inside some e ends re ae te =
-    rw (ne-eqb b 0 some, ← e) (seated-meets p 0 m hs slot b inside ends re ae te)
+resized-meets p st ws hs slot h old new m inside some e ends re ae te =
+    rw (ne-eqb new 0 some, ← e) (seated-meets p 0 m hs slot new inside ends re ae te)
 
 -- one element less
-pub last-resized : (st : ListPool) (ws hs : List ℕ) (slot h n : ℕ) → 1 ≤ n → lastRemoved st ws hs slot h n ≡ resized st ws hs slot h n (n - 1)
+pub last-resized : (st : ListPool) (ws hs : List ℕ) (slot h old : ℕ) → 1 ≤ old → lastRemoved st ws hs slot h old ≡ resized st ws hs slot h old (old - 1)
 unfolding lastRemoved resized
-last-resized st ws hs slot h n some =
+last-resized st ws hs slot h old some =
     ⊎-elim
-    (λ z. rw (eq-eqb n 1 (omega arith), eq-eqb (n - 1) 0 z) refl)
-    (λ p. rw (ne-eqb n 1 (omega arith), ne-eqb (n - 1) 0 (omega arith)) refl)
-    (eq-zero-or-pos (n - 1))
+    (λ z. rw (eq-eqb old 1 (omega arith), eq-eqb (old - 1) 0 z) refl)
+    (λ p. rw (ne-eqb old 1 (omega arith), ne-eqb (old - 1) 0 (omega arith)) refl)
+    (eq-zero-or-pos (old - 1))
 
 -- some elements more, or an empty list's first ones
 pub grown-resized : (st : ListPool) (ws hs : List ℕ) (slot count : ℕ) → (lenOf ws hs slot + count ≡ 0 → ⊥)
@@ -70,29 +71,30 @@ unfolding grown resized
 grown-resized st ws hs slot count some = rw (ne-eqb (lenOf ws hs slot + count) 0 some) refl
 
 -- fewer elements
-pub truncate-resized : (st : ListPool) (ws hs : List ℕ) (slot b : ℕ) → b < lenOf ws hs slot
-    → truncateDone st ws hs slot b ≡ resized st ws hs slot (handleAt hs slot) (lenOf ws hs slot) b
+pub truncate-resized : (st : ListPool) (ws hs : List ℕ) (slot new : ℕ) → new < lenOf ws hs slot
+    → truncateDone st ws hs slot new ≡ resized st ws hs slot (handleAt hs slot) (lenOf ws hs slot) new
 unfolding truncateDone clearDone resized
-truncate-resized st ws hs slot b fewer =
+truncate-resized st ws hs slot new fewer =
     ⊎-elim
-    (λ z. rw (eq-eqb b 0 z) refl)
-    (λ p. rw (ne-eqb b 0 (omega arith), lt-leb (lenOf ws hs slot) b fewer) refl)
-    (eq-zero-or-pos b)
+    (λ z. rw (eq-eqb new 0 z) refl)
+    (λ p. rw (ne-eqb new 0 (omega arith), lt-leb (lenOf ws hs slot) new fewer) refl)
+    (eq-zero-or-pos new)
 
 -- no fewer: an empty list is truncated to 0 too, and has no block to give up
-pub truncate-none : (p : ℕ) (st : ListPool) (ws hs : List ℕ) (slot b : ℕ) → ListAt p (handleAt hs slot) (lenOf ws hs slot) → lenOf ws hs slot ≤ b
-    → truncateDone st ws hs slot b ≡ done 0 st ws hs
+pub truncate-none : (p : ℕ) (st : ListPool) (ws hs : List ℕ) (slot new : ℕ) → ListAt p (handleAt hs slot) (lenOf ws hs slot) → lenOf ws hs slot ≤ new
+    → truncateDone st ws hs slot new ≡ done 0 st ws hs
 unfolding truncateDone clearDone cleared
-truncate-none p st ws hs slot b l most =
+truncate-none p st ws hs slot new l most =
     ⊎-elim
     (λ z.
     let empty : handleAt hs slot ≡ 0 = ⊎-elim (λ e. e) (λ some. absurd (omega (arith, l .live some))) (eq-zero-or-pos (handleAt hs slot)) in
-    rw (eq-eqb b 0 z, eq-eqb (handleAt hs slot) 0 empty) refl)
-    (λ p. rw (ne-eqb b 0 (omega arith), le-leb (lenOf ws hs slot) b most) refl)
-    (eq-zero-or-pos b)
+    rw (eq-eqb new 0 z, eq-eqb (handleAt hs slot) 0 empty) refl)
+    (λ p. rw (ne-eqb new 0 (omega arith), le-leb (lenOf ws hs slot) new most) refl)
+    (eq-zero-or-pos new)
 
 -- words written after a step, at a place of the list it left
-pub outcome-written : (f : List ℕ → List ℕ → List ℕ) {r : Answer} {after tabled written : List ℕ} {o : Outcome} → outcome r after tabled ≡ o → written ≡ f after tabled
+pub outcome-written : (f : List ℕ → List ℕ → List ℕ) {r : Answer} {after tabled written : List ℕ} {o : Outcome}
+    → outcome r after tabled ≡ o → written ≡ f after tabled
     → outcome r written tabled ≡ outcome (o .answer) (f (o .words) (o .handles)) (o .handles)
 outcome-written f {r} {tabled = tabled} e w =
     ap (λ (l : List ℕ). outcome r l tabled) w ∙ ap (λ (o : Outcome). outcome (o .answer) (f (o .words) (o .handles)) (o .handles)) e

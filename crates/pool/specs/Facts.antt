@@ -12,8 +12,10 @@ use native.Mathlib.Omega.{arith}
 use Rattle.sizes.specs.Class.{longest, classOf, sizeOf}
 use Rattle.sizes.specs.Laws.{class-holds, class-below}
 use Rattle.pool.specs.declared.ListPool.{ListPool}
-use Rattle.pool.specs.Numbers.{_orElse_, poolLimit, tableLimit, headOf, handleAt, lengthAt, soundHandle, soundHead, given, tooLong, overLimit, entryNumber, entryNumber₂, badHead, noRoom, roomNumber, needsBlock, needNumber}
-use Rattle.pool.specs.Rules.{lenOf, atNumber, takeNumber, growNumber, fromSliceNumber, deepCloneNumber, growAtNumber, copyFromNumber, removeNumber, truncateNumber}
+use Rattle.pool.specs.Numbers.{_orElse_, poolLimit, tableLimit, headOf, handleAt, lengthAt, soundHandle, soundHead, given}
+use Rattle.pool.specs.Numbers.{tooLong, overLimit, entryNumber, entryNumber₂, badHead, noRoom, roomNumber, needsBlock, needNumber}
+use Rattle.pool.specs.Rules.{lenOf, atNumber, takeNumber, growNumber, fromSliceNumber}
+use Rattle.pool.specs.Rules.{deepCloneNumber, growAtNumber, copyFromNumber, removeNumber, truncateNumber}
 use Rattle.pool.specs.Steps.{ListAt, CanAlloc, Ready, HasAt, CanCopy}
 
 -- TESTS
@@ -142,7 +144,8 @@ pub record Entered (used : ℕ) (ws hs : List ℕ) (slot : ℕ) : Type 0 where
   pub list : ListAt (length ws) (handleAt hs slot) (lenOf ws hs slot)
 
 module _ (used : ℕ) (ws hs : List ℕ) where
-  entered : (slot : ℕ) → overLimit used (length ws) (length hs) ≡ false → leb (length hs) slot ≡ false → not (soundHandle used ws (handleAt hs slot)) ≡ false → Entered used ws hs slot
+  entered : (slot : ℕ) → overLimit used (length ws) (length hs) ≡ false → leb (length hs) slot ≡ false
+      → not (soundHandle used ws (handleAt hs slot)) ≡ false → Entered used ws hs slot
   entered slot e1 e2 e3 =
       let w = within-facts used (length ws) (length hs) e1 in
       record {
@@ -155,7 +158,8 @@ module _ (used : ℕ) (ws hs : List ℕ) where
   unfolding entryNumber
   entry-facts slot e =
       let e2 = else-second _ _ e in
-      entered slot (given-zero 1 _ (omega arith) (else-first _ _ e)) (given-zero 2 _ (omega arith) (else-first _ _ e2)) (given-zero 3 _ (omega arith) (else-second _ _ e2))
+      entered slot (given-zero 1 _ (omega arith) (else-first _ _ e)) (given-zero 2 _ (omega arith) (else-first _ _ e2))
+      (given-zero 3 _ (omega arith) (else-second _ _ e2))
 
   pub entry-facts₂ : (slot other : ℕ) → entryNumber₂ used ws hs slot other ≡ 0 → (Entered used ws hs slot) × (Entered used ws hs other)
   unfolding entryNumber₂
@@ -166,17 +170,18 @@ module _ (used : ℕ) (ws hs : List ℕ) where
       (entered slot e1 (e2 .0) (e3 .0), entered other e1 (e2 .1) (e3 .1))
 
 -- where no block is needed and some elements are left, there were some before, in a block of the same class
-pub record Stays (a b : ℕ) : Type 0 where
-  pub some : 0 < a
-  pub most : b ≤ longest
-  pub class : classOf a ≡ classOf b
+pub record Stays (old new : ℕ) : Type 0 where
+  pub some : 0 < old
+  pub most : new ≤ longest
+  pub class : classOf old ≡ classOf new
 
-pub stays : (a b : ℕ) → 0 < b → needsBlock a b ≡ false → Stays a b
+pub stays : (old new : ℕ) → 0 < new → needsBlock old new ≡ false → Stays old new
 unfolding needsBlock
-stays a b p e =
-    let t = neither (sym (ap (λ (x : Bool). not x && (eqb a 0 || ltb longest b || not (eqb (classOf a) (classOf b)))) (ne-eqb b 0 (omega arith))) ∙ e) in
+stays old new p e =
+    let test = ap (λ (x : Bool). not x && (eqb old 0 || ltb longest new || not (eqb (classOf old) (classOf new)))) (ne-eqb new 0 (omega arith)) in
+    let t = neither (sym test ∙ e) in
     let u = neither (t .0) in
-    record { some = omega (arith, eqb-false a 0 (u .0)); most = ltb-false _ _ (u .1); class = eqb-true _ _ (not-false _ (t .1)) }
+    record { some = omega (arith, eqb-false old 0 (u .0)); most = ltb-false _ _ (u .1); class = eqb-true _ _ (not-false _ (t .1)) }
 
 -- a head that is not 0, and is locally sound
 pub record Head (used : ℕ) (ws : List ℕ) (c h : ℕ) : Type 0 where
@@ -199,7 +204,8 @@ module _ (st : ListPool) (ws : List ℕ) (limit : length ws ≤ poolLimit) (belo
       let h = headOf st (classOf n) in
       let long = neither (given-zero 7 _ (omega arith) (else-second _ _ e)) in
       let short = ltb-false longest n (long .0) in
-      let sound = not-false _ (sym (ap (λ (t : Bool). t && not (soundHead (st .used) ws (classOf n) h)) (le-leb n longest short)) ∙ given-zero 6 _ (omega arith) (else-first _ _ e)) in (
+      let test = ap (λ (t : Bool). t && not (soundHead (st .used) ws (classOf n) h)) (le-leb n longest short) in
+      let sound = not-false _ (sym test ∙ given-zero 6 _ (omega arith) (else-first _ _ e)) in (
         short,
         record {
           class = class-below n short;
@@ -209,32 +215,34 @@ module _ (st : ListPool) (ws : List ℕ) (limit : length ws ≤ poolLimit) (belo
         },
       )
 
-  pub need-facts : (a b : ℕ) → needNumber st ws a b ≡ 0 → (b ≤ longest) × (needsBlock a b ≡ true → CanAlloc st (length ws) (classOf b))
+  pub need-facts : (old new : ℕ) → needNumber st ws old new ≡ 0 → (new ≤ longest) × (needsBlock old new ≡ true → CanAlloc st (length ws) (classOf new))
   unfolding needNumber
-  need-facts a b e = go (needsBlock a b) refl e
+  need-facts old new e = go (needsBlock old new) refl e
     where
-      go : (t : Bool) → needsBlock a b ≡ t → cond t (roomNumber st ws b) 0 ≡ 0 → (b ≤ longest) × (needsBlock a b ≡ true → CanAlloc st (length ws) (classOf b))
-      go true m z = let r = room-facts b z in (r .0, λ q. r .1)
+      go : (t : Bool) → needsBlock old new ≡ t → cond t (roomNumber st ws new) 0 ≡ 0
+          → (new ≤ longest) × (needsBlock old new ≡ true → CanAlloc st (length ws) (classOf new))
+      go true m z = let r = room-facts new z in (r .0, λ q. r .1)
       go false m z =
-          (⊎-elim (λ q. omega arith) (λ p. stays a b p m .most) (eq-zero-or-pos b), λ q. absurd (true≢false (sym q ∙ m)))
+          (⊎-elim (λ q. omega arith) (λ p. stays old new p m .most) (eq-zero-or-pos new), λ q. absurd (true≢false (sym q ∙ m)))
 
--- a call that neither 1, 2, 3 nor 6, 7 refuse can leave b elements in a slot's list
-pub ready : (st : ListPool) (ws hs : List ℕ) (slot b : ℕ) → Entered (st .used) ws hs slot → needNumber st ws (lenOf ws hs slot) b ≡ 0 → Ready st ws hs slot b
-ready st ws hs slot b f e =
-    let n = need-facts st ws (f .limits .pool-limit) (f .limits .below) (lenOf ws hs slot) b e in
+-- a call that neither 1, 2, 3 nor 6, 7 refuse can leave a slot's list with the new length
+pub ready : (st : ListPool) (ws hs : List ℕ) (slot new : ℕ) → Entered (st .used) ws hs slot
+    → needNumber st ws (lenOf ws hs slot) new ≡ 0 → Ready st ws hs slot new
+ready st ws hs slot new f e =
+    let n = need-facts st ws (f .limits .pool-limit) (f .limits .below) (lenOf ws hs slot) new e in
     record { inside = f .inside; can = record { limit = f .limits .pool-limit; list = f .list; most = n .0; room = n .1 } }
 
 -- an empty list can get what no number of an empty list refuses
-pub ready-empty : (st : ListPool) (ws hs : List ℕ) (slot b : ℕ) → Entered (st .used) ws hs slot → handleAt hs slot ≡ 0 → needNumber st ws 0 b ≡ 0
-    → Ready st ws hs slot (lenOf ws hs slot + b)
-ready-empty st ws hs slot b f z e = ready st ws hs slot _ f (rw (f .list .none z, zero-add) e)
+pub ready-empty : (st : ListPool) (ws hs : List ℕ) (slot count : ℕ) → Entered (st .used) ws hs slot → handleAt hs slot ≡ 0 → needNumber st ws 0 count ≡ 0
+    → Ready st ws hs slot (lenOf ws hs slot + count)
+ready-empty st ws hs slot count f z e = ready st ws hs slot _ f (rw (f .list .none z, zero-add) e)
 
 -- a length over the longest is 7, whatever the heads are
-pub need-over : (st : ListPool) (ws : List ℕ) (a b : ℕ) → longest < b → needNumber st ws a b ≡ 7
+pub need-over : (st : ListPool) (ws : List ℕ) (old new : ℕ) → longest < new → needNumber st ws old new ≡ 7
 unfolding needNumber needsBlock roomNumber badHead noRoom given _orElse_
-need-over st ws a b h = rw (ne-eqb b 0 (omega arith), lt-ltb longest b h, lt-leb b longest h) (go (eqb a 0))
+need-over st ws old new h = rw (ne-eqb new 0 (omega arith), lt-ltb longest new h, lt-leb new longest h) (go (eqb old 0))
   where
-    go : (t : Bool) → _≡_ {A = ℕ} (cond (t || true || not (eqb (classOf a) (classOf b))) 7 0) 7
+    go : (t : Bool) → _≡_ {A = ℕ} (cond (t || true || not (eqb (classOf old) (classOf new))) 7 0) 7
     go true = refl
     go false = refl
 
@@ -266,15 +274,16 @@ module _ (st : ListPool) (ws hs : List ℕ) where
   unfolding removeNumber
   remove-facts slot position e = let f = at-facts _ _ _ _ _ (else-first _ _ e) in (f .1, ready st ws hs _ _ (f .0) (else-second _ _ e))
 
-  pub truncate-facts : (slot n : ℕ) → truncateNumber st ws hs slot n ≡ 0 → Ready st ws hs slot (min (lenOf ws hs slot) n)
+  pub truncate-facts : (slot new : ℕ) → truncateNumber st ws hs slot new ≡ 0 → Ready st ws hs slot (min (lenOf ws hs slot) new)
   unfolding truncateNumber
-  truncate-facts slot n e = ready st ws hs _ _ (entry-facts _ _ _ _ (else-first _ _ e)) (else-second _ _ e)
+  truncate-facts slot new e = ready st ws hs _ _ (entry-facts _ _ _ _ (else-first _ _ e)) (else-second _ _ e)
 
   pub from-slice-facts : (slot count : ℕ) → fromSliceNumber st ws hs slot count ≡ 0 → Ready st ws hs slot (lenOf ws hs slot + count)
   unfolding fromSliceNumber
   from-slice-facts slot count e =
       let e2 = else-second _ _ e in
-      ready-empty st ws hs _ _ (entry-facts _ _ _ _ (else-first _ _ e)) (eqb-true _ _ (not-false _ (given-zero 5 _ (omega arith) (else-first _ _ e2)))) (else-second _ _ e2)
+      let empty = eqb-true _ _ (not-false _ (given-zero 5 _ (omega arith) (else-first _ _ e2))) in
+      ready-empty st ws hs _ _ (entry-facts _ _ _ _ (else-first _ _ e)) empty (else-second _ _ e2)
 
   pub deep-clone-facts : (slot to : ℕ) → deepCloneNumber st ws hs slot to ≡ 0
       → (Entered (st .used) ws hs slot) × (Ready st ws hs to (lenOf ws hs to + lenOf ws hs slot))

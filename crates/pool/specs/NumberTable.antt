@@ -12,7 +12,8 @@ use borrow.Author.Tests.{ltb-false, lt-ltb, le-ltb, lt-leb, le-leb}
 use native.Mathlib.Nat.{eq-zero-or-pos}
 use native.Mathlib.Omega.{arith}
 use Rattle.pool.specs.declared.ListPool.{ListPool}
-use Rattle.pool.specs.Numbers.{_orElse_, handleAt, soundHandle, given, tooLong, overLimit, entryNumber, entryNumber₂, badHead, noRoom, roomNumber, needsBlock, needNumber}
+use Rattle.pool.specs.Numbers.{_orElse_, handleAt, soundHandle, given, tooLong, overLimit, entryNumber, entryNumber₂}
+use Rattle.pool.specs.Numbers.{badHead, noRoom, roomNumber, needsBlock, needNumber}
 use Rattle.pool.specs.Rules as rules
 use Rattle.pool.specs.Rules.{lenOf, Call, numberOf, called}
 use Rattle.pool.specs.Facts.{neither, else-none, else-assoc}
@@ -79,7 +80,7 @@ module _ (st : ListPool) (ws hs : List ℕ) where
   judged (rules.insert slot position x) = judge limits (slot ∷ []) (ltb (len slot) position) false (len slot) (len slot + 1)
   judged (rules.remove slot position) = judge limits (slot ∷ []) (leb (len slot) position) false (len slot) (len slot - 1)
   judged (rules.swapRemove slot position) = judge limits (slot ∷ []) (leb (len slot) position) false (len slot) (len slot - 1)
-  judged (rules.truncate slot n) = judge limits (slot ∷ []) false false (len slot) (min (len slot) n)
+  judged (rules.truncate slot new) = judge limits (slot ∷ []) false false (len slot) (min (len slot) new)
   judged (rules.growAt slot position count) = judge limits (slot ∷ []) (ltb (len slot) position) false (len slot) (len slot + count)
   judged rules.clearPool = judge (tooLong (length ws) (length hs)) [] false false 0 0
 
@@ -190,7 +191,8 @@ module _ (st : ListPool) (ws hs : List ℕ) where
   take-slots slot to = rw (else-none (given 5 (eqb slot to || not (eqb (handleAt hs to) 0))))
 
   row-by-row : (call : Call) → numberOf call st ws hs ≡ firstThat (applies call st ws hs) order
-  unfolding numberOf firstThat applies order judged anyOf given _orElse_ needsBlock needNumber rules.fromSliceNumber rules.deepCloneNumber rules.growNumber rules.copyFromNumber rules.growAtNumber rules.truncateNumber rules.clearPoolNumber
+  unfolding numberOf firstThat applies order judged anyOf given _orElse_ needsBlock needNumber
+      rules.fromSliceNumber rules.deepCloneNumber rules.growNumber rules.copyFromNumber rules.growAtNumber rules.truncateNumber rules.clearPoolNumber
   row-by-row (rules.fromSlice slot xs) = one-slot slot (judged st ws hs (rules.fromSlice slot xs))
   row-by-row (rules.isEmpty slot) = sym (else-none _) ∙ one-slot slot (judged st ws hs (rules.isEmpty slot))
   row-by-row (rules.len slot) = sym (else-none _) ∙ one-slot slot (judged st ws hs (rules.len slot))
@@ -207,7 +209,7 @@ module _ (st : ListPool) (ws hs : List ℕ) where
   row-by-row (rules.insert slot position x) = one-slot slot (judged st ws hs (rules.insert slot position x))
   row-by-row (rules.remove slot position) = remove-slot slot position ∙ one-slot slot (judged st ws hs (rules.remove slot position))
   row-by-row (rules.swapRemove slot position) = remove-slot slot position ∙ one-slot slot (judged st ws hs (rules.swapRemove slot position))
-  row-by-row (rules.truncate slot n) = one-slot slot (judged st ws hs (rules.truncate slot n))
+  row-by-row (rules.truncate slot new) = one-slot slot (judged st ws hs (rules.truncate slot new))
   row-by-row (rules.growAt slot position count) = one-slot slot (judged st ws hs (rules.growAt slot position count))
   row-by-row rules.clearPool = refl
 

@@ -85,11 +85,11 @@ noRoom st ws n = ltb longest n || (eqb (headOf st (classOf n)) 0 && ltb (length 
 unfoldable pub roomNumber : ListPool → List ℕ → ℕ → ℕ
 roomNumber st ws n = given 6 (badHead st ws n) orElse given 7 (noRoom st ws n)
 
--- Is a block needed where a list of a elements gets b? Not for none. For an empty list, and where the class changes;
+-- Is a block needed where a list of the old length gets the new one? Not for none. For an empty list, and where the class changes;
 -- "a list's new length over 65,535 has no class and always needs a block"
 unfoldable pub needsBlock : ℕ → ℕ → Bool
-needsBlock a b = not (eqb b 0) && (eqb a 0 || ltb longest b || not (eqb (classOf a) (classOf b)))
+needsBlock old new = not (eqb new 0) && (eqb old 0 || ltb longest new || not (eqb (classOf old) (classOf new)))
 
--- 6 or 7 for a list of a elements that gets b
+-- 6 or 7 for a list of the old length that gets the new one
 unfoldable pub needNumber : ListPool → List ℕ → ℕ → ℕ → ℕ
-needNumber st ws a b = cond (needsBlock a b) (roomNumber st ws b) 0
+needNumber st ws old new = cond (needsBlock old new) (roomNumber st ws new) 0

@@ -40,7 +40,9 @@ grown-number st ws hs slot count = chosen (eqb (lenOf ws hs slot + count) 0) _ _
 
 -- what is done has number 0
 pub done-number : (call : Call) (st : ListPool) (ws hs : List ℕ) → doneOf call st ws hs .answer .number ≡ 0
-unfolding doneOf opened rules.fromSliceDone rules.isEmptyDone rules.lenDone rules.isValidDone rules.getDone rules.setDone rules.deepCloneDone rules.clearDone rules.takeDone rules.pushDone rules.extendDone rules.copyFromDone rules.insertDone rules.removeDone rules.swapRemoveDone rules.truncateDone rules.growAtDone rules.clearPoolDone
+unfolding doneOf opened rules.fromSliceDone rules.isEmptyDone rules.lenDone rules.isValidDone rules.getDone rules.setDone rules.deepCloneDone
+    rules.clearDone rules.takeDone rules.pushDone rules.extendDone rules.copyFromDone rules.insertDone rules.removeDone rules.swapRemoveDone
+    rules.truncateDone rules.growAtDone rules.clearPoolDone
 done-number (rules.fromSlice slot xs) st ws hs = grown-number st ws hs slot (length xs)
 done-number (rules.isEmpty slot) st ws hs = refl
 done-number (rules.len slot) st ws hs = refl
@@ -57,8 +59,8 @@ done-number (rules.copyFrom slot source start end position) st ws hs = grown-num
 done-number (rules.insert slot position x) st ws hs = refl
 done-number (rules.remove slot position) st ws hs = last-removed-number st _ hs slot (handleAt hs slot) (lenOf ws hs slot)
 done-number (rules.swapRemove slot position) st ws hs = last-removed-number st _ hs slot (handleAt hs slot) (lenOf ws hs slot)
-done-number (rules.truncate slot n) st ws hs =
-    chosen (eqb n 0) _ _ (cleared-number st ws hs slot (handleAt hs slot) (lenOf ws hs slot)) (chosen (leb (lenOf ws hs slot) n) _ _ refl refl)
+done-number (rules.truncate slot new) st ws hs =
+    chosen (eqb new 0) _ _ (cleared-number st ws hs slot (handleAt hs slot) (lenOf ws hs slot)) (chosen (leb (lenOf ws hs slot) new) _ _ refl refl)
 done-number (rules.growAt slot position count) st ws hs = grown-number st ws hs slot count
 done-number rules.clearPool st ws hs = refl
 

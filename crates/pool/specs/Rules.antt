@@ -52,14 +52,14 @@ cleared st ws hs slot h n =
 -- 7. one element less, the last: "at length 1, the list is cleared; at 4, 8, 16 and so on it moves one class down, copying old-length words;
 -- the length is set."
 unfoldable pub lastRemoved : ListPool → List ℕ → List ℕ → ℕ → ℕ → ℕ → Outcome
-lastRemoved st ws hs slot h n = cond (eqb n 1) (cleared st ws hs slot h n) (seated 0 (moved st ws h n (n - 1)) hs slot (n - 1))
+lastRemoved st ws hs slot h old = cond (eqb old 1) (cleared st ws hs slot h old) (seated 0 (moved st ws h old (old - 1)) hs slot (old - 1))
 
 -- 6. "Growing by a count (35): to an empty list with count 0 does nothing, with more allocates; otherwise moves when the class changes,
 -- copying length + 1 words. Then the new length is written."
 unfoldable pub grown : ListPool → List ℕ → List ℕ → ℕ → ℕ → Outcome
 grown st ws hs slot count =
-    let n = lenOf ws hs slot in
-    cond (eqb (n + count) 0) (done 0 st ws hs) (seated 0 (moved st ws (handleAt hs slot) n (n + count)) hs slot (n + count))
+    let old = lenOf ws hs slot in
+    cond (eqb (old + count) 0) (done 0 st ws hs) (seated 0 (moved st ws (handleAt hs slot) old (old + count)) hs slot (old + count))
 
 -- "`grow_at` then shifts the tail up from the top; the opened places keep what stood there."
 unfoldable pub opened : ListPool → List ℕ → List ℕ → ℕ → ℕ → ℕ → Outcome
@@ -147,9 +147,9 @@ module _ (st : ListPool) (ws hs : List ℕ) where
   -- written last." "`push` returns the old length."
   unfoldable pub pushDone : ℕ → ℕ → Outcome
   pushDone slot x =
-      let n = lenOf ws hs slot in
-      let m = moved st ws (handleAt hs slot) n (n + 1) in
-      seated n (record { block = m .block; state = m .state; words = set (m .words) (m .block + (n + 1)) x }) hs slot (n + 1)
+      let old = lenOf ws hs slot in
+      let m = moved st ws (handleAt hs slot) old (old + 1) in
+      seated old (record { block = m .block; state = m .state; words = set (m .words) (m .block + (old + 1)) x }) hs slot (old + 1)
 
   -- 6. "`extend` and `copy_from` fill them.": the places opened at the end
   unfoldable pub extendDone : ℕ → List ℕ → Outcome
@@ -192,28 +192,28 @@ module _ (st : ListPool) (ws hs : List ℕ) where
   -- 7. "`remove` shifts down"
   unfoldable pub removeDone : ℕ → ℕ → Outcome
   removeDone slot position =
-      let n = lenOf ws hs slot in
+      let old = lenOf ws hs slot in
       let at = handleAt hs slot + position in
-      lastRemoved st (copied ws (at + 1) at (n - (position + 1))) hs slot (handleAt hs slot) n
+      lastRemoved st (copied ws (at + 1) at (old - (position + 1))) hs slot (handleAt hs slot) old
 
   -- "`swap_remove` exchanges with the last"
   unfoldable pub swapRemoveDone : ℕ → ℕ → Outcome
   swapRemoveDone slot position =
-      let n = lenOf ws hs slot in
+      let old = lenOf ws hs slot in
       let at = handleAt hs slot + position in
-      let last = handleAt hs slot + (n - 1) in
-      lastRemoved st (set (set ws at (getD ws last 0)) last (getD ws at 0)) hs slot (handleAt hs slot) n
+      let last = handleAt hs slot + (old - 1) in
+      lastRemoved st (set (set ws at (getD ws last 0)) last (getD ws at 0)) hs slot (handleAt hs slot) old
 
   -- "(`truncate` to the length or more makes no new length)"
   unfoldable pub truncateNumber : ℕ → ℕ → ℕ
-  truncateNumber slot n = entryNumber (st .used) ws hs slot orElse needNumber st ws (lenOf ws hs slot) (min (lenOf ws hs slot) n)
+  truncateNumber slot new = entryNumber (st .used) ws hs slot orElse needNumber st ws (lenOf ws hs slot) (min (lenOf ws hs slot) new)
 
   -- 8. "`truncate` to 0 clears; to the length or more does nothing; else moves if the class changes, copying new length + 1 words, and then
   -- the new length is written."
   unfoldable pub truncateDone : ℕ → ℕ → Outcome
-  truncateDone slot n =
-      cond (eqb n 0) (clearDone slot)
-      (cond (leb (lenOf ws hs slot) n) (done 0 st ws hs) (seated 0 (moved st ws (handleAt hs slot) (lenOf ws hs slot) n) hs slot n))
+  truncateDone slot new =
+      cond (eqb new 0) (clearDone slot)
+      (cond (leb (lenOf ws hs slot) new) (done 0 st ws hs) (seated 0 (moved st ws (handleAt hs slot) (lenOf ws hs slot) new) hs slot new))
 
   unfoldable pub growAtDone : ℕ → ℕ → ℕ → Outcome
   growAtDone slot position count = opened st ws hs slot position count
@@ -266,7 +266,7 @@ numberOf (copyFrom slot source start end position) st ws hs = copyFromNumber st 
 numberOf (insert slot position x) st ws hs = growAtNumber st ws hs slot position 1
 numberOf (remove slot position) st ws hs = removeNumber st ws hs slot position
 numberOf (swapRemove slot position) st ws hs = removeNumber st ws hs slot position
-numberOf (truncate slot n) st ws hs = truncateNumber st ws hs slot n
+numberOf (truncate slot new) st ws hs = truncateNumber st ws hs slot new
 numberOf (growAt slot position count) st ws hs = growAtNumber st ws hs slot position count
 numberOf clearPool st ws hs = clearPoolNumber st ws hs
 
@@ -288,7 +288,7 @@ doneOf (copyFrom slot source start end position) st ws hs = copyFromDone st ws h
 doneOf (insert slot position x) st ws hs = insertDone st ws hs slot position x
 doneOf (remove slot position) st ws hs = removeDone st ws hs slot position
 doneOf (swapRemove slot position) st ws hs = swapRemoveDone st ws hs slot position
-doneOf (truncate slot n) st ws hs = truncateDone st ws hs slot n
+doneOf (truncate slot new) st ws hs = truncateDone st ws hs slot new
 doneOf (growAt slot position count) st ws hs = growAtDone st ws hs slot position count
 doneOf clearPool st ws hs = clearPoolDone st ws hs
 

@@ -29,37 +29,38 @@ head-below st p c can =
 pub can-free : (p h n : ℕ) → ListAt p h n → 0 < n → p ≤ poolLimit → CanFree p (h - 1) (classOf n)
 can-free p h n l some limit = record { class = class-below n (l .short); limit = limit; whole = l .block some }
 
-module _ (st : ListPool) (p h a b : ℕ) (can : CanResize st p h a b) where
+module _ (st : ListPool) (p h old new : ℕ) (can : CanResize st p h old new) where
   -- where another block is needed for a list that is not empty, it can be exchanged, with the length and what both have
-  pub can-realloc : 0 < a → needsBlock a b ≡ true → CanRealloc st p (h - 1) (classOf a) (classOf b) (min a b + 1)
+  pub can-realloc : 0 < old → needsBlock old new ≡ true → CanRealloc st p (h - 1) (classOf old) (classOf new) (min old new + 1)
   can-realloc some m =
       record {
         new = can .room m;
-        old = can-free p h a (can .list) some (can .limit);
-        leaves = omega (arith, class-fits a (omega (arith, can .list .short)));
-        fits = omega (arith, class-fits b (omega (arith, can .most)));
+        old = can-free p h old (can .list) some (can .limit);
+        leaves = omega (arith, class-fits old (omega (arith, can .list .short)));
+        fits = omega (arith, class-fits new (omega (arith, can .most)));
       }
 
-  -- a block of b's class holds the length and b elements
-  pub block-fits : b + 1 ≤ sizeOf (classOf b)
-  block-fits = class-fits b (omega (arith, can .most))
+  -- a block of the new length's class holds the length and the elements
+  pub block-fits : new + 1 ≤ sizeOf (classOf new)
+  block-fits = class-fits new (omega (arith, can .most))
 
   -- where none is needed and some elements are left, the list's own block holds them
-  pub stay-ends : {t : Bool} → 0 < b → t ≡ needsBlock a b → not t ≡ true → (1 ≤ h) × (h - 1 + (b + 1) ≤ p)
-  stay-ends some m n =
-      let s = stays a b some (sym m ∙ not-true _ n) in
+  pub stay-ends : {t : Bool} → 0 < new → t ≡ needsBlock old new → not t ≡ true → (1 ≤ h) × (h - 1 + (new + 1) ≤ p)
+  stay-ends some m t =
+      let s = stays old new some (sym m ∙ not-true _ t) in
       (can .list .some (s .some), omega (arith, can .list .block (s .some), block-fits, ap sizeOf (s .class)))
 
 -- a list that keeps its length needs no block
-pub need-same : (st : ListPool) (ws : List ℕ) (a b : ℕ) → a ≤ longest → b ≡ a → needNumber st ws a b ≡ 0
+pub need-same : (st : ListPool) (ws : List ℕ) (old new : ℕ) → old ≤ longest → new ≡ old → needNumber st ws old new ≡ 0
 unfolding needNumber needsBlock
-need-same st ws a b short e = rw (e, le-ltb longest a short, eq-eqb (classOf a) (classOf a) refl) (go (eqb a 0))
+need-same st ws old new short e = rw (e, le-ltb longest old short, eq-eqb (classOf old) (classOf old) refl) (go (eqb old 0))
   where
-    go : (t : Bool) → _≡_ {A = ℕ} (cond (not t && (t || false || not true)) (roomNumber st ws a) 0) 0
+    go : (t : Bool) → _≡_ {A = ℕ} (cond (not t && (t || false || not true)) (roomNumber st ws old) 0) 0
     go true = refl
     go false = refl
 
 -- a call that may remove an element can remove the last one, wherever the elements were moved before
-pub can-remove-last : (st : ListPool) (ws hs : List ℕ) (slot position : ℕ) {p n : ℕ} → (HasAt ws hs slot position) × (Ready st ws hs slot (lenOf ws hs slot - 1)) → p ≡ length ws → n ≡ lenOf ws hs slot
-    → (CanResize st p (handleAt hs slot) n (n - 1)) × (n - 1 ≡ 0 → 1 ≤ handleAt hs slot) × (slot < length hs)
+pub can-remove-last : (st : ListPool) (ws hs : List ℕ) (slot position : ℕ) {p old : ℕ}
+    → (HasAt ws hs slot position) × (Ready st ws hs slot (lenOf ws hs slot - 1)) → p ≡ length ws → old ≡ lenOf ws hs slot
+    → (CanResize st p (handleAt hs slot) old (old - 1)) × (old - 1 ≡ 0 → 1 ≤ handleAt hs slot) × (slot < length hs)
 can-remove-last st ws hs slot position f e g = rw (e, g) (f .1 .can, (λ _. f .1 .can .list .some (omega (arith, f .0 .before))), f .1 .inside)

@@ -8,7 +8,7 @@ use lib.ListN.{length}
 use lib.Dec.{eqb}
 use Rattle.sizes.specs.Class.{longest, classCount, classOf, sizeOf}
 use Rattle.pool.specs.declared.ListPool.{ListPool}
-use Rattle.pool.specs.declared.Block.{Block}
+use Rattle.pool.specs.declared.Taken as code
 use Rattle.pool.specs.Numbers.{poolLimit, stateOf, headOf, handleAt, needsBlock}
 use Rattle.pool.specs.Blocks.{Taken, Freed, moved}
 use Rattle.pool.specs.declared.Answer.{Answer}
@@ -44,17 +44,17 @@ pub record CanRealloc (st : ListPool) (p block from to k : ℕ) : Type 0 where
   pub leaves : k ≤ sizeOf from
   pub fits : k ≤ sizeOf to
 
--- the list of a elements at h can get b
-pub record CanResize (st : ListPool) (p h a b : ℕ) : Type 0 where
+-- the list of the old length at h can get the new one
+pub record CanResize (st : ListPool) (p h old new : ℕ) : Type 0 where
   pub limit : p ≤ poolLimit
-  pub list : ListAt p h a
-  pub most : b ≤ longest
-  pub room : needsBlock a b ≡ true → CanAlloc st p (classOf b)
+  pub list : ListAt p h old
+  pub most : new ≤ longest
+  pub room : needsBlock old new ≡ true → CanAlloc st p (classOf new)
 
--- a call that leaves b elements in a slot's list can be done
-pub record Ready (st : ListPool) (ws hs : List ℕ) (slot b : ℕ) : Type 0 where
+-- a call that leaves a slot's list with the new length can be done
+pub record Ready (st : ListPool) (ws hs : List ℕ) (slot new : ℕ) : Type 0 where
   pub inside : slot < length hs
-  pub can : CanResize st (length ws) (handleAt hs slot) (lenOf ws hs slot) b
+  pub can : CanResize st (length ws) (handleAt hs slot) (lenOf ws hs slot) new
 
 -- a position in a slot's list, whose elements lie in the pool
 pub record HasAt (ws hs : List ℕ) (slot position : ℕ) : Type 0 where
@@ -70,16 +70,16 @@ pub record CanCopy (st : ListPool) (ws hs : List ℕ) (slot source start end pos
   pub named : source < length hs
   pub range : handleAt hs source + end ≤ length ws
 
--- the block that the code hands back, with the heads and the words it left, as the rules have it
-abbrev pub taken : Block → List ℕ → List ℕ → Taken
-taken t heads ws = record { block = t .at; state = stateOf (t .used) heads; words = ws }
+-- the block that the code has taken, with the heads and the words it left, as the rules have it
+abbrev pub taken : code.Taken → List ℕ → List ℕ → Taken
+taken t heads ws = record { block = t .block; state = stateOf (t .used) heads; words = ws }
 
 abbrev pub freed : ℕ → List ℕ → List ℕ → Freed
 freed used heads ws = record { state = stateOf used heads; words = ws }
 
--- the list of n elements at h gets b: it is cleared, or lies in the block for b
+-- the list of the old length at h gets the new one: it is cleared, or lies in the block for that
 unfoldable pub resized : ListPool → List ℕ → List ℕ → ℕ → ℕ → ℕ → ℕ → Outcome
-resized st ws hs slot h n b = cond (eqb b 0) (cleared st ws hs slot h n) (seated 0 (moved st ws h n b) hs slot b)
+resized st ws hs slot h old new = cond (eqb new 0) (cleared st ws hs slot h old) (seated 0 (moved st ws h old new) hs slot new)
 
 -- a step did what the rule says, and the first n elements of the slot's list lie in the pool
 pub record Meets (p : ℕ) (rule : Outcome) (slot n : ℕ) (r : Answer) (after tabled : List ℕ) : Type 0 where
@@ -87,9 +87,9 @@ pub record Meets (p : ℕ) (rule : Outcome) (slot n : ℕ) (r : Answer) (after t
   pub ends : handleAt tabled slot + n ≤ p
 
 -- a step did what the rule says, and the first k words of the block it took lie in the pool
-pub record Takes (p : ℕ) (rule : Taken) (k : ℕ) (t : Block) (heads after : List ℕ) : Type 0 where
+pub record Takes (p : ℕ) (rule : Taken) (k : ℕ) (t : code.Taken) (heads after : List ℕ) : Type 0 where
   pub is : taken t heads after ≡ rule
-  pub ends : t .at + k ≤ p
+  pub ends : t .block + k ≤ p
 
 -- the number and the deed of a call that leaves the state as it is and gives no value: of such a call they need the used count alone
 pub record Does (call : Call) (used : ℕ) (ws hs : List ℕ) (r : ℕ) (after tabled : List ℕ) : Type 0 where

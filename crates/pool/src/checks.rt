@@ -3,11 +3,13 @@ ghost use mathlib.Core.Path.{_≡_};
 ghost use Rattle.pool.specs.Numbers.{overLimit, soundHandle, soundHead, tooLong};
 use sizes::SizeClass;
 
+// The most words of a pool.
 pub const POOL_LIMIT: usize = 65536;
 
+// The most handles of a table.
 pub const TABLE_LIMIT: usize = 16384;
 
-// Is the pool or the table over its limit?
+// Returns whether the pool or the table is over its limit.
 pub fn too_long(pool: usize, table: usize) -> bool
     ensures { λ r. ⌜ r ≡ tooLong pool table ⌝ }
 {
@@ -17,7 +19,7 @@ pub fn too_long(pool: usize, table: usize) -> bool
     table > TABLE_LIMIT
 }
 
-// Is a limit passed?
+// Returns whether a limit is passed: a length over its own, or a used count above the pool's length or not a multiple of 4.
 pub fn over_limit(used: u32, pool: usize, table: usize) -> bool
     ensures { λ r. ⌜ r ≡ overLimit used pool table ⌝ }
 {
@@ -30,7 +32,7 @@ pub fn over_limit(used: u32, pool: usize, table: usize) -> bool
     used % 4 != 0
 }
 
-// Is a handle locally sound?
+// Returns whether a handle is locally sound.
 pub fn sound_handle(used: usize, pool: &[u32], h: u32) -> bool
     ensures { λ r. ⌜ r ≡ soundHandle used (now (pool .entry)) h ⌝ }
 {
@@ -54,7 +56,7 @@ pub fn sound_handle(used: usize, pool: &[u32], h: u32) -> bool
     at - 1 + SizeClass::size(SizeClass::for_length(n)) <= used
 }
 
-// Is a head of the class c locally sound?
+// Returns whether a head of the class c is locally sound.
 pub fn sound_head(used: usize, pool: &[u32], c: u32, h: u32) -> bool
     ensures { λ r. ⌜ r ≡ soundHead used (now (pool .entry)) c h ⌝ }
 {

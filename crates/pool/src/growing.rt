@@ -11,7 +11,7 @@ use super::blocks;
 use super::numbers;
 use super::steps;
 
-// What `push` does: the element is written behind the others, in the list's block or in another where one is needed; the length is written last.
+// Does a `push`: writes the element behind the others, in the list's own block or in another where one is needed, and the length last.
 fn push_done(
     mut state: ListPool,
     pool: &mut [u32],
@@ -20,26 +20,28 @@ fn push_done(
     element: u32,
 ) -> Answer
     requires { ⌜ Ready state (now pool) (now handles) slot (lenOf (now pool) (now handles) slot + 1) ⌝ }
-    ensures { λ r. ⌜ Meets (length (now (pool .entry))) (rules.pushDone state (now (pool .entry)) (now (handles .entry)) slot element) slot (lenOf (now (pool .entry)) (now (handles .entry)) slot + 1) r (now (pool .exit)) (now (handles .exit)) ⌝ }
+    ensures { λ r. ⌜ Meets (length (now (pool .entry)))
+        (rules.pushDone state (now (pool .entry)) (now (handles .entry)) slot element)
+        slot (lenOf (now (pool .entry)) (now (handles .entry)) slot + 1) r (now (pool .exit)) (now (handles .exit)) ⌝ }
 {
     let h = handles[slot];
-    let len = numbers::length_at(pool, h);
-    let n = len as usize + 1;
-    if !numbers::needs_block(len, len + 1) {
+    let old = numbers::length_at(pool, h);
+    let new = old as usize + 1;
+    if !numbers::needs_block(old, old + 1) {
         let at = h as usize - 1;
-        pool[at + n] = element;
-        steps::seat(pool, handles, slot, at, len + 1);
-        return steps::done(state, len);
+        pool[at + new] = element;
+        steps::seat(pool, handles, slot, at, old + 1);
+        return steps::done(state, old);
     }
-    let t = blocks::moved(state.used, &mut state.heads, pool, h, len, len + 1);
-    state.used = t.used;
-    let block = t.at;
-    pool[block + n] = element;
-    steps::seat(pool, handles, slot, block, len + 1);
-    steps::done(state, len)
+    let taken = blocks::moved(state.used, &mut state.heads, pool, h, old, old + 1);
+    state.used = taken.used;
+    let block = taken.block;
+    pool[block + new] = element;
+    steps::seat(pool, handles, slot, block, old + 1);
+    steps::done(state, old)
 }
 
-// What `extend` does: the list grows, and the elements fill the places opened at its end.
+// Does an `extend`: grows the list, and fills the places that opens at its end with the elements.
 fn extend_done(
     state: ListPool,
     pool: &mut [u32],
@@ -48,16 +50,17 @@ fn extend_done(
     elements: &[u32],
 ) -> Answer
     requires { ⌜ Ready state (now pool) (now handles) slot (lenOf (now pool) (now handles) slot + length (now elements)) ⌝ }
-    ensures { λ r. ⌜ outcome r (now (pool .exit)) (now (handles .exit)) ≡ rules.extendDone state (now (pool .entry)) (now (handles .entry)) slot (now (elements .entry)) ⌝ }
+    ensures { λ r. ⌜ outcome r (now (pool .exit)) (now (handles .exit))
+        ≡ rules.extendDone state (now (pool .entry)) (now (handles .entry)) slot (now (elements .entry)) ⌝ }
 {
-    let len = numbers::length_at(pool, handles[slot]) as usize;
+    let old = numbers::length_at(pool, handles[slot]) as usize;
     let grown = steps::grow(state, pool, handles, slot, elements.len());
     let first = handles[slot] as usize;
-    words::store(pool, first + len, elements);
+    words::store(pool, first + old, elements);
     grown
 }
 
-// What `copy_from` does: the list grows, the tail from the position on goes up, and the source's range fills the places that opens.
+// Does a `copy_from`: grows the list, shifts the tail up from the position on, and fills the places that opens with the source's range.
 fn copy_from_done(
     state: ListPool,
     pool: &mut [u32],
@@ -69,19 +72,20 @@ fn copy_from_done(
     position: usize,
 ) -> Answer
     requires { ⌜ CanCopy state (now pool) (now handles) slot source start end position ⌝ }
-    ensures { λ r. ⌜ outcome r (now (pool .exit)) (now (handles .exit)) ≡ rules.copyFromDone state (now (pool .entry)) (now (handles .entry)) slot source start end position ⌝ }
+    ensures { λ r. ⌜ outcome r (now (pool .exit)) (now (handles .exit))
+        ≡ rules.copyFromDone state (now (pool .entry)) (now (handles .entry)) slot source start end position ⌝ }
 {
     let from = handles[source] as usize + start;
-    let len = numbers::length_at(pool, handles[slot]) as usize;
+    let old = numbers::length_at(pool, handles[slot]) as usize;
     let count = end - start;
     let grown = steps::grow(state, pool, handles, slot, count);
     let at = handles[slot] as usize + position;
-    words::shift_up(pool, at, at + count, len - position);
+    words::shift_up(pool, at, at + count, old - position);
     words::copy(pool, from, at, count);
     grown
 }
 
-// What `insert` does: the element is pushed, the tail goes up by one, and the element is written at the position.
+// Does an `insert`: pushes the element, shifts the tail up by one, and writes the element at the position.
 fn insert_done(
     state: ListPool,
     pool: &mut [u32],
@@ -90,18 +94,20 @@ fn insert_done(
     position: usize,
     element: u32,
 ) -> Answer
-    requires { ⌜ (position ≤ lenOf (now pool) (now handles) slot) × (Ready state (now pool) (now handles) slot (lenOf (now pool) (now handles) slot + 1)) ⌝ }
-    ensures { λ r. ⌜ outcome r (now (pool .exit)) (now (handles .exit)) ≡ rules.insertDone state (now (pool .entry)) (now (handles .entry)) slot position element ⌝ }
+    requires { ⌜ (position ≤ lenOf (now pool) (now handles) slot)
+        × (Ready state (now pool) (now handles) slot (lenOf (now pool) (now handles) slot + 1)) ⌝ }
+    ensures { λ r. ⌜ outcome r (now (pool .exit)) (now (handles .exit))
+        ≡ rules.insertDone state (now (pool .entry)) (now (handles .entry)) slot position element ⌝ }
 {
-    let len = numbers::length_at(pool, handles[slot]) as usize;
+    let old = numbers::length_at(pool, handles[slot]) as usize;
     let pushed = push_done(state, pool, handles, slot, element);
     let at = handles[slot] as usize + position;
-    words::shift_up(pool, at, at + 1, len - position);
+    words::shift_up(pool, at, at + 1, old - position);
     pool[at] = element;
     steps::done(pushed.state, 0)
 }
 
-// What `grow_at` does: the list grows, and the tail from the position on goes up.
+// Does a `grow_at`: grows the list, and shifts the tail up from the position on.
 fn grow_at_done(
     state: ListPool,
     pool: &mut [u32],
@@ -110,20 +116,23 @@ fn grow_at_done(
     position: usize,
     count: usize,
 ) -> Answer
-    requires { ⌜ (position ≤ lenOf (now pool) (now handles) slot) × (Ready state (now pool) (now handles) slot (lenOf (now pool) (now handles) slot + count)) ⌝ }
-    ensures { λ r. ⌜ outcome r (now (pool .exit)) (now (handles .exit)) ≡ rules.growAtDone state (now (pool .entry)) (now (handles .entry)) slot position count ⌝ }
+    requires { ⌜ (position ≤ lenOf (now pool) (now handles) slot)
+        × (Ready state (now pool) (now handles) slot (lenOf (now pool) (now handles) slot + count)) ⌝ }
+    ensures { λ r. ⌜ outcome r (now (pool .exit)) (now (handles .exit))
+        ≡ rules.growAtDone state (now (pool .entry)) (now (handles .entry)) slot position count ⌝ }
 {
-    let len = numbers::length_at(pool, handles[slot]) as usize;
+    let old = numbers::length_at(pool, handles[slot]) as usize;
     let grown = steps::grow(state, pool, handles, slot, count);
     let at = handles[slot] as usize + position;
-    words::shift_up(pool, at, at + count, len - position);
+    words::shift_up(pool, at, at + count, old - position);
     grown
 }
 
 impl ListPool {
     // Appends an element to the list in a slot; the value is the old length.
     pub fn push(self, pool: &mut [u32], handles: &mut [u32], slot: usize, element: u32) -> Answer
-        ensures { λ r. ⌜ outcome r (now (pool .exit)) (now (handles .exit)) ≡ called (rules.push slot element) self (now (pool .entry)) (now (handles .entry)) ⌝ }
+        ensures { λ r. ⌜ outcome r (now (pool .exit)) (now (handles .exit))
+            ≡ called (rules.push slot element) self (now (pool .entry)) (now (handles .entry)) ⌝ }
     {
         let number = numbers::push_number(self.used, &self.heads, pool, handles, slot);
         if number != 0 {
@@ -140,7 +149,8 @@ impl ListPool {
         slot: usize,
         elements: &[u32],
     ) -> Answer
-        ensures { λ r. ⌜ outcome r (now (pool .exit)) (now (handles .exit)) ≡ called (rules.extend slot (now (elements .entry))) self (now (pool .entry)) (now (handles .entry)) ⌝ }
+        ensures { λ r. ⌜ outcome r (now (pool .exit)) (now (handles .exit))
+            ≡ called (rules.extend slot (now (elements .entry))) self (now (pool .entry)) (now (handles .entry)) ⌝ }
     {
         let number = numbers::extend_number(
             self.used,
@@ -156,7 +166,7 @@ impl ListPool {
         extend_done(self, pool, handles, slot, elements)
     }
 
-    // Copies the elements from start to end of the list in the slot source into the list in a slot, at a position.
+    // Copies the elements from start to end of the list in the slot `source` into the list in a slot, at a position.
     pub fn copy_from(
         self,
         pool: &mut [u32],
@@ -167,7 +177,8 @@ impl ListPool {
         end: usize,
         position: usize,
     ) -> Answer
-        ensures { λ r. ⌜ outcome r (now (pool .exit)) (now (handles .exit)) ≡ called (rules.copyFrom slot source start end position) self (now (pool .entry)) (now (handles .entry)) ⌝ }
+        ensures { λ r. ⌜ outcome r (now (pool .exit)) (now (handles .exit))
+            ≡ called (rules.copyFrom slot source start end position) self (now (pool .entry)) (now (handles .entry)) ⌝ }
     {
         let number = numbers::copy_from_number(
             self.used,
@@ -195,7 +206,8 @@ impl ListPool {
         position: usize,
         element: u32,
     ) -> Answer
-        ensures { λ r. ⌜ outcome r (now (pool .exit)) (now (handles .exit)) ≡ called (rules.insert slot position element) self (now (pool .entry)) (now (handles .entry)) ⌝ }
+        ensures { λ r. ⌜ outcome r (now (pool .exit)) (now (handles .exit))
+            ≡ called (rules.insert slot position element) self (now (pool .entry)) (now (handles .entry)) ⌝ }
     {
         let number = numbers::insert_number(self.used, &self.heads, pool, handles, slot, position);
         if number != 0 {
@@ -213,7 +225,8 @@ impl ListPool {
         position: usize,
         count: usize,
     ) -> Answer
-        ensures { λ r. ⌜ outcome r (now (pool .exit)) (now (handles .exit)) ≡ called (rules.growAt slot position count) self (now (pool .entry)) (now (handles .entry)) ⌝ }
+        ensures { λ r. ⌜ outcome r (now (pool .exit)) (now (handles .exit))
+            ≡ called (rules.growAt slot position count) self (now (pool .entry)) (now (handles .entry)) ⌝ }
     {
         let number = numbers::grow_at_number(
             self.used,

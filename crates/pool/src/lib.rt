@@ -36,9 +36,9 @@ pub struct Answer {
     pub state: ListPool,
 }
 
-// A block that was taken: where it starts, and how many words are used after that.
-pub struct Block {
-    pub at: usize,
+// A block that was taken: where it starts, and how many words are used now.
+pub struct Taken {
+    pub block: usize,
     pub used: u32,
 }
 

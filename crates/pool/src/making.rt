@@ -11,7 +11,7 @@ use super::ListPool;
 use super::numbers;
 use super::steps;
 
-// What `from_slice` does: the empty list grows, and the elements are stored in it.
+// Does a `from_slice`: grows the empty list, and stores the elements in it.
 fn from_slice_done(
     state: ListPool,
     pool: &mut [u32],
@@ -20,7 +20,8 @@ fn from_slice_done(
     elements: &[u32],
 ) -> Answer
     requires { ⌜ Ready state (now pool) (now handles) slot (lenOf (now pool) (now handles) slot + length (now elements)) ⌝ }
-    ensures { λ r. ⌜ outcome r (now (pool .exit)) (now (handles .exit)) ≡ rules.fromSliceDone state (now (pool .entry)) (now (handles .entry)) slot (now (elements .entry)) ⌝ }
+    ensures { λ r. ⌜ outcome r (now (pool .exit)) (now (handles .exit))
+        ≡ rules.fromSliceDone state (now (pool .entry)) (now (handles .entry)) slot (now (elements .entry)) ⌝ }
 {
     let grown = steps::grow(state, pool, handles, slot, elements.len());
     let at = handles[slot] as usize;
@@ -28,7 +29,7 @@ fn from_slice_done(
     grown
 }
 
-// What `deep_clone` does: the empty list grows to the other's length, and the other's elements are copied there.
+// Does a `deep_clone`: grows the empty list to the length of the list in the slot, and copies that list's elements there.
 fn deep_clone_done(
     state: ListPool,
     pool: &mut [u32],
@@ -36,8 +37,10 @@ fn deep_clone_done(
     slot: usize,
     to: usize,
 ) -> Answer
-    requires { ⌜ (Entered (state .used) (now pool) (now handles) slot) × (Ready state (now pool) (now handles) to (lenOf (now pool) (now handles) to + lenOf (now pool) (now handles) slot)) ⌝ }
-    ensures { λ r. ⌜ outcome r (now (pool .exit)) (now (handles .exit)) ≡ rules.deepCloneDone state (now (pool .entry)) (now (handles .entry)) slot to ⌝ }
+    requires { ⌜ (Entered (state .used) (now pool) (now handles) slot)
+        × (Ready state (now pool) (now handles) to (lenOf (now pool) (now handles) to + lenOf (now pool) (now handles) slot)) ⌝ }
+    ensures { λ r. ⌜ outcome r (now (pool .exit)) (now (handles .exit))
+        ≡ rules.deepCloneDone state (now (pool .entry)) (now (handles .entry)) slot to ⌝ }
 {
     let h = handles[slot];
     let len = numbers::length_at(pool, h) as usize;
@@ -47,7 +50,7 @@ fn deep_clone_done(
     grown
 }
 
-// Moves the handle of `take`, and gives the number of the call.
+// Does a `take`, and returns its number: moves the handle to the other slot where the number is 0.
 fn take_handle(used: u32, pool: &[u32], handles: &mut [u32], slot: usize, to: usize) -> u32
     ensures { λ r. ⌜ Does (rules.take slot to) used (now (pool .entry)) (now (handles .entry)) r (now (pool .entry)) (now (handles .exit)) ⌝ }
 {
@@ -69,7 +72,8 @@ impl ListPool {
         slot: usize,
         elements: &[u32],
     ) -> Answer
-        ensures { λ r. ⌜ outcome r (now (pool .exit)) (now (handles .exit)) ≡ called (rules.fromSlice slot (now (elements .entry))) self (now (pool .entry)) (now (handles .entry)) ⌝ }
+        ensures { λ r. ⌜ outcome r (now (pool .exit)) (now (handles .exit))
+            ≡ called (rules.fromSlice slot (now (elements .entry))) self (now (pool .entry)) (now (handles .entry)) ⌝ }
     {
         let number = numbers::from_slice_number(
             self.used,
@@ -87,7 +91,8 @@ impl ListPool {
 
     // Puts a copy of the list in a slot into the empty slot `to`.
     pub fn deep_clone(self, pool: &mut [u32], handles: &mut [u32], slot: usize, to: usize) -> Answer
-        ensures { λ r. ⌜ outcome r (now (pool .exit)) (now (handles .exit)) ≡ called (rules.deepClone slot to) self (now (pool .entry)) (now (handles .entry)) ⌝ }
+        ensures { λ r. ⌜ outcome r (now (pool .exit)) (now (handles .exit))
+            ≡ called (rules.deepClone slot to) self (now (pool .entry)) (now (handles .entry)) ⌝ }
     {
         let number = numbers::deep_clone_number(self.used, &self.heads, pool, handles, slot, to);
         if number != 0 {
@@ -98,7 +103,8 @@ impl ListPool {
 
     // Moves the list in a slot to the empty slot `to`.
     pub fn take(self, pool: &[u32], handles: &mut [u32], slot: usize, to: usize) -> Answer
-        ensures { λ r. ⌜ outcome r (now (pool .entry)) (now (handles .exit)) ≡ called (rules.take slot to) self (now (pool .entry)) (now (handles .entry)) ⌝ }
+        ensures { λ r. ⌜ outcome r (now (pool .entry)) (now (handles .exit))
+            ≡ called (rules.take slot to) self (now (pool .entry)) (now (handles .entry)) ⌝ }
     {
         let number = take_handle(self.used, pool, handles, slot, to);
         Answer {

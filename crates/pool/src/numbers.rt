@@ -9,7 +9,7 @@ ghost use Rattle.pool.specs.Rules as rules;
 use super::checks;
 use sizes::SizeClass;
 
-// The length that stands before a handle; 0 for the empty list.
+// Returns the length that stands before a handle, 0 for the empty list.
 pub fn length_at(pool: &[u32], h: u32) -> u32
     requires { ⌜ h ≤ length (now pool) ⌝ }
     ensures { λ r. ⌜ r ≡ numbers.lengthAt (now (pool .entry)) h ⌝ }
@@ -21,7 +21,7 @@ pub fn length_at(pool: &[u32], h: u32) -> u32
     pool[at - 1]
 }
 
-// 1, 2, 3 or 0 for a call that names the list in a slot.
+// Returns 1, 2, 3 or 0 for a call that names the list in a slot.
 pub fn entry_number(used: u32, pool: &[u32], handles: &[u32], slot: usize) -> u32
     ensures { λ r. ⌜ r ≡ numbers.entryNumber used (now (pool .entry)) (now (handles .entry)) slot ⌝ }
 {
@@ -37,7 +37,7 @@ pub fn entry_number(used: u32, pool: &[u32], handles: &[u32], slot: usize) -> u3
     0
 }
 
-// The same for a call that names the lists in two slots.
+// Returns 1, 2, 3 or 0 for a call that names the lists in two slots.
 pub fn entry_number_2(used: u32, pool: &[u32], handles: &[u32], slot: usize, other: usize) -> u32
     ensures { λ r. ⌜ r ≡ numbers.entryNumber₂ used (now (pool .entry)) (now (handles .entry)) slot other ⌝ }
 {
@@ -59,23 +59,23 @@ pub fn entry_number_2(used: u32, pool: &[u32], handles: &[u32], slot: usize, oth
     0
 }
 
-// Does a list of a elements that gets b need another block?
-pub fn needs_block(a: u32, b: u32) -> bool
-    ensures { λ r. ⌜ r ≡ numbers.needsBlock a b ⌝ }
+// Returns whether a list of the old length needs another block for the new one.
+pub fn needs_block(old: u32, new: u32) -> bool
+    ensures { λ r. ⌜ r ≡ numbers.needsBlock old new ⌝ }
 {
-    if b == 0 {
+    if new == 0 {
         return false;
     }
-    if a == 0 {
+    if old == 0 {
         return true;
     }
-    if b > SizeClass::LONGEST {
+    if new > SizeClass::LONGEST {
         return true;
     }
-    SizeClass::for_length(a) != SizeClass::for_length(b)
+    SizeClass::for_length(old) != SizeClass::for_length(new)
 }
 
-// 6, 7 or 0 where a block is needed for n elements.
+// Returns 6, 7 or 0 where a block is needed for n elements.
 fn room_number(used: u32, heads: &[u32; SizeClass::COUNT], pool: &[u32], n: u32) -> u32
     ensures { λ r. ⌜ r ≡ numbers.roomNumber (stateOf used (now (heads .entry))) (now (pool .entry)) n ⌝ }
 {
@@ -97,34 +97,34 @@ fn room_number(used: u32, heads: &[u32; SizeClass::COUNT], pool: &[u32], n: u32)
     0
 }
 
-// 6, 7 or 0 for a list of a elements that gets b.
-fn need_number(used: u32, heads: &[u32; SizeClass::COUNT], pool: &[u32], a: u32, b: u32) -> u32
-    ensures { λ r. ⌜ r ≡ numbers.needNumber (stateOf used (now (heads .entry))) (now (pool .entry)) a b ⌝ }
+// Returns 6, 7 or 0 for a list of the old length that gets the new one.
+fn need_number(used: u32, heads: &[u32; SizeClass::COUNT], pool: &[u32], old: u32, new: u32) -> u32
+    ensures { λ r. ⌜ r ≡ numbers.needNumber (stateOf used (now (heads .entry))) (now (pool .entry)) old new ⌝ }
 {
-    if needs_block(a, b) {
-        return room_number(used, heads, pool, b);
+    if needs_block(old, new) {
+        return room_number(used, heads, pool, new);
     }
     0
 }
 
-// The same for a list of a elements that grows by a count, of any size.
+// Returns 6, 7 or 0 for a list of the old length that grows by a count, of any size.
 fn more_number(
     used: u32,
     heads: &[u32; SizeClass::COUNT],
     pool: &[u32],
-    a: u32,
+    old: u32,
     count: usize,
 ) -> u32
-    requires { ⌜ a ≤ longest ⌝ }
-    ensures { λ r. ⌜ r ≡ numbers.needNumber (stateOf used (now (heads .entry))) (now (pool .entry)) a (a + count) ⌝ }
+    requires { ⌜ old ≤ longest ⌝ }
+    ensures { λ r. ⌜ r ≡ numbers.needNumber (stateOf used (now (heads .entry))) (now (pool .entry)) old (old + count) ⌝ }
 {
     if count > SizeClass::LONGEST as usize {
         return 7;
     }
-    need_number(used, heads, pool, a, a + count as u32)
+    need_number(used, heads, pool, old, old + count as u32)
 }
 
-// The number of `from_slice`, of count elements.
+// Returns the number of `from_slice` of a count of elements.
 pub fn from_slice_number(
     used: u32,
     heads: &[u32; SizeClass::COUNT],
@@ -145,7 +145,7 @@ pub fn from_slice_number(
     more_number(used, heads, pool, 0, count)
 }
 
-// The number of a call on the element at a position of the list in a slot.
+// Returns the number of a call on the element at a position of the list in a slot.
 pub fn at_number(used: u32, pool: &[u32], handles: &[u32], slot: usize, position: usize) -> u32
     ensures { λ r. ⌜ r ≡ rules.atNumber used (now (pool .entry)) (now (handles .entry)) slot position ⌝ }
 {
@@ -159,7 +159,7 @@ pub fn at_number(used: u32, pool: &[u32], handles: &[u32], slot: usize, position
     0
 }
 
-// The number of `deep_clone`.
+// Returns the number of `deep_clone`.
 pub fn deep_clone_number(
     used: u32,
     heads: &[u32; SizeClass::COUNT],
@@ -180,7 +180,7 @@ pub fn deep_clone_number(
     need_number(used, heads, pool, 0, length_at(pool, handles[slot]))
 }
 
-// The number of `take`.
+// Returns the number of `take`.
 pub fn take_number(used: u32, pool: &[u32], handles: &[u32], slot: usize, to: usize) -> u32
     ensures { λ r. ⌜ r ≡ rules.takeNumber used (now (pool .entry)) (now (handles .entry)) slot to ⌝ }
 {
@@ -197,7 +197,8 @@ pub fn take_number(used: u32, pool: &[u32], handles: &[u32], slot: usize, to: us
     0
 }
 
-// The number of `push`: of growing by 1, a count that needs no judging.
+// Returns the number of `push`. The rule is that of `extend` with a count of 1, and the code stands twice because the compiler makes better code of
+// it: a count of 1 needs no judging, and with one function for both a push took a third longer.
 pub fn push_number(
     used: u32,
     heads: &[u32; SizeClass::COUNT],
@@ -211,11 +212,11 @@ pub fn push_number(
     if entry != 0 {
         return entry;
     }
-    let len = length_at(pool, handles[slot]);
-    need_number(used, heads, pool, len, len + 1)
+    let old = length_at(pool, handles[slot]);
+    need_number(used, heads, pool, old, old + 1)
 }
 
-// The number of `extend` by a count of elements.
+// Returns the number of `extend` by a count of elements. `push_number` stands beside it for a count of 1.
 pub fn extend_number(
     used: u32,
     heads: &[u32; SizeClass::COUNT],
@@ -233,7 +234,7 @@ pub fn extend_number(
     more_number(used, heads, pool, length_at(pool, handles[slot]), count)
 }
 
-// The number of `copy_from`: of the range from start to end of the list in the slot source, to a position of the list in a slot.
+// Returns the number of `copy_from`: of the range from start to end of the list in the slot source, to a position of the list in a slot.
 pub fn copy_from_number(
     used: u32,
     heads: &[u32; SizeClass::COUNT],
@@ -251,8 +252,8 @@ pub fn copy_from_number(
     if entry != 0 {
         return entry;
     }
-    let len = length_at(pool, handles[slot]);
-    if position > len as usize {
+    let old = length_at(pool, handles[slot]);
+    if position > old as usize {
         return 4;
     }
     if start > end {
@@ -264,10 +265,10 @@ pub fn copy_from_number(
     if handles[slot] == handles[source] {
         return 5;
     }
-    more_number(used, heads, pool, len, end - start)
+    more_number(used, heads, pool, old, end - start)
 }
 
-// The number of `insert`: of growing by 1 at a position.
+// Returns the number of `insert`. The rule is that of `grow_at` with a count of 1, and the code stands twice for the reason that `push_number` gives.
 pub fn insert_number(
     used: u32,
     heads: &[u32; SizeClass::COUNT],
@@ -282,14 +283,14 @@ pub fn insert_number(
     if entry != 0 {
         return entry;
     }
-    let len = length_at(pool, handles[slot]);
-    if position > len as usize {
+    let old = length_at(pool, handles[slot]);
+    if position > old as usize {
         return 4;
     }
-    need_number(used, heads, pool, len, len + 1)
+    need_number(used, heads, pool, old, old + 1)
 }
 
-// The number of `remove` and `swap_remove`.
+// Returns the number of `remove` and of `swap_remove`.
 pub fn remove_number(
     used: u32,
     heads: &[u32; SizeClass::COUNT],
@@ -304,33 +305,33 @@ pub fn remove_number(
     if entry != 0 {
         return entry;
     }
-    let len = length_at(pool, handles[slot]);
-    need_number(used, heads, pool, len, len - 1)
+    let old = length_at(pool, handles[slot]);
+    need_number(used, heads, pool, old, old - 1)
 }
 
-// The number of `truncate`.
+// Returns the number of `truncate` to the new length.
 pub fn truncate_number(
     used: u32,
     heads: &[u32; SizeClass::COUNT],
     pool: &[u32],
     handles: &[u32],
     slot: usize,
-    n: usize,
+    new: usize,
 ) -> u32
-    ensures { λ r. ⌜ r ≡ rules.truncateNumber (stateOf used (now (heads .entry))) (now (pool .entry)) (now (handles .entry)) slot n ⌝ }
+    ensures { λ r. ⌜ r ≡ rules.truncateNumber (stateOf used (now (heads .entry))) (now (pool .entry)) (now (handles .entry)) slot new ⌝ }
 {
     let entry = entry_number(used, pool, handles, slot);
     if entry != 0 {
         return entry;
     }
-    let len = length_at(pool, handles[slot]);
-    if n >= len as usize {
+    let old = length_at(pool, handles[slot]);
+    if new >= old as usize {
         return 0;
     }
-    need_number(used, heads, pool, len, n as u32)
+    need_number(used, heads, pool, old, new as u32)
 }
 
-// The number of `grow_at`.
+// Returns the number of `grow_at`. `insert_number` stands beside it for a count of 1.
 pub fn grow_at_number(
     used: u32,
     heads: &[u32; SizeClass::COUNT],
@@ -346,9 +347,9 @@ pub fn grow_at_number(
     if entry != 0 {
         return entry;
     }
-    let len = length_at(pool, handles[slot]);
-    if (len as usize) < position {
+    let old = length_at(pool, handles[slot]);
+    if (old as usize) < position {
         return 4;
     }
-    more_number(used, heads, pool, len, count)
+    more_number(used, heads, pool, old, count)
 }

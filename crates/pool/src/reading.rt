@@ -10,9 +10,10 @@ use super::numbers;
 use super::steps;
 
 impl ListPool {
-    // Is the list in a slot empty? The value is 1 where it is, else 0.
+    // Tells whether the list in a slot is empty: the value is 1 where it is, else 0.
     pub fn is_empty(self, pool: &[u32], handles: &[u32], slot: usize) -> Answer
-        ensures { λ r. ⌜ outcome r (now (pool .entry)) (now (handles .entry)) ≡ called (rules.isEmpty slot) self (now (pool .entry)) (now (handles .entry)) ⌝ }
+        ensures { λ r. ⌜ outcome r (now (pool .entry)) (now (handles .entry))
+            ≡ called (rules.isEmpty slot) self (now (pool .entry)) (now (handles .entry)) ⌝ }
     {
         let number = numbers::entry_number(self.used, pool, handles, slot);
         if number != 0 {
@@ -24,9 +25,10 @@ impl ListPool {
         steps::done(self, 0)
     }
 
-    // The number of elements of the list in a slot.
+    // Gives the number of elements of the list in a slot.
     pub fn len(self, pool: &[u32], handles: &[u32], slot: usize) -> Answer
-        ensures { λ r. ⌜ outcome r (now (pool .entry)) (now (handles .entry)) ≡ called (rules.len slot) self (now (pool .entry)) (now (handles .entry)) ⌝ }
+        ensures { λ r. ⌜ outcome r (now (pool .entry)) (now (handles .entry))
+            ≡ called (rules.len slot) self (now (pool .entry)) (now (handles .entry)) ⌝ }
     {
         let number = numbers::entry_number(self.used, pool, handles, slot);
         if number != 0 {
@@ -36,9 +38,10 @@ impl ListPool {
         steps::done(self, len)
     }
 
-    // Is the list in a slot valid? The value is 1, and a handle that is not locally sound is refused.
+    // Tells whether the list in a slot is valid: the value is 1, and a handle that is not locally sound is refused.
     pub fn is_valid(self, pool: &[u32], handles: &[u32], slot: usize) -> Answer
-        ensures { λ r. ⌜ outcome r (now (pool .entry)) (now (handles .entry)) ≡ called (rules.isValid slot) self (now (pool .entry)) (now (handles .entry)) ⌝ }
+        ensures { λ r. ⌜ outcome r (now (pool .entry)) (now (handles .entry))
+            ≡ called (rules.isValid slot) self (now (pool .entry)) (now (handles .entry)) ⌝ }
     {
         let number = numbers::entry_number(self.used, pool, handles, slot);
         if number != 0 {
@@ -47,7 +50,7 @@ impl ListPool {
         steps::done(self, 1)
     }
 
-    // Where the elements of the list in a slot lie: from start to end of the pool, and nothing, at 0, where reading it is refused.
+    // Returns where the elements of the list in a slot lie: from start to end of the pool, and nothing, at 0, where reading it is refused.
     pub fn part(self, pool: &[u32], handles: &[u32], slot: usize) -> Part
         ensures { λ r. ⌜ PartOf self (now (pool .entry)) (now (handles .entry)) slot r ⌝ }
     {
@@ -62,7 +65,7 @@ impl ListPool {
         }
     }
 
-    // The elements of the list in a slot, as a part of the pool: empty where reading it is refused.
+    // Returns the elements of the list in a slot, as a part of the pool: empty where reading it is refused.
     pub fn as_slice<'a>(self, pool: &'a [u32], handles: &[u32], slot: usize) -> &'a [u32]
         ensures { λ r. ⌜ LiesIn self (now (handles .entry)) slot (pool .entry) r ⌝ }
     {
@@ -72,9 +75,10 @@ impl ListPool {
         &pool[start..end]
     }
 
-    // The element at a position of the list in a slot.
+    // Gives the element at a position of the list in a slot.
     pub fn get(self, pool: &[u32], handles: &[u32], slot: usize, position: usize) -> Answer
-        ensures { λ r. ⌜ outcome r (now (pool .entry)) (now (handles .entry)) ≡ called (rules.get slot position) self (now (pool .entry)) (now (handles .entry)) ⌝ }
+        ensures { λ r. ⌜ outcome r (now (pool .entry)) (now (handles .entry))
+            ≡ called (rules.get slot position) self (now (pool .entry)) (now (handles .entry)) ⌝ }
     {
         let number = numbers::at_number(self.used, pool, handles, slot, position);
         if number != 0 {
@@ -84,9 +88,10 @@ impl ListPool {
         steps::done(self, pool[at])
     }
 
-    // The first element of the list in a slot.
+    // Gives the first element of the list in a slot.
     pub fn first(self, pool: &[u32], handles: &[u32], slot: usize) -> Answer
-        ensures { λ r. ⌜ outcome r (now (pool .entry)) (now (handles .entry)) ≡ called (rules.first slot) self (now (pool .entry)) (now (handles .entry)) ⌝ }
+        ensures { λ r. ⌜ outcome r (now (pool .entry)) (now (handles .entry))
+            ≡ called (rules.first slot) self (now (pool .entry)) (now (handles .entry)) ⌝ }
     {
         self.get(pool, handles, slot, 0)
     }

@@ -13,7 +13,7 @@ use super::numbers;
 use super::steps;
 use sizes::SizeClass;
 
-// Gives the block of `clear`'s list up, if it has one, and gives the number of the call.
+// Does a `clear`, and returns its number: gives up the block of the list, if it has one, where the number is 0.
 fn clear_list(
     used: u32,
     heads: &mut [u32; SizeClass::COUNT],
@@ -21,7 +21,8 @@ fn clear_list(
     handles: &mut [u32],
     slot: usize,
 ) -> u32
-    ensures { λ r. ⌜ outcome (rules.answer r 0 (stateOf used (now (heads .exit)))) (now (pool .exit)) (now (handles .exit)) ≡ called (rules.clear slot) (stateOf used (now (heads .entry))) (now (pool .entry)) (now (handles .entry)) ⌝ }
+    ensures { λ r. ⌜ outcome (rules.answer r 0 (stateOf used (now (heads .exit)))) (now (pool .exit)) (now (handles .exit))
+        ≡ called (rules.clear slot) (stateOf used (now (heads .entry))) (now (pool .entry)) (now (handles .entry)) ⌝ }
 {
     let number = numbers::entry_number(used, pool, handles, slot);
     if number != 0 {
@@ -36,7 +37,7 @@ fn clear_list(
     0
 }
 
-// What `remove` does: the elements behind the position go down by one, and the last place is given up.
+// Does a `remove`: shifts the elements behind the position down by one, and gives up the last place.
 fn remove_done(
     state: ListPool,
     pool: &mut [u32],
@@ -44,17 +45,19 @@ fn remove_done(
     slot: usize,
     position: usize,
 ) -> Answer
-    requires { ⌜ (HasAt (now pool) (now handles) slot position) × (Ready state (now pool) (now handles) slot (lenOf (now pool) (now handles) slot - 1)) ⌝ }
-    ensures { λ r. ⌜ outcome r (now (pool .exit)) (now (handles .exit)) ≡ rules.removeDone state (now (pool .entry)) (now (handles .entry)) slot position ⌝ }
+    requires { ⌜ (HasAt (now pool) (now handles) slot position)
+        × (Ready state (now pool) (now handles) slot (lenOf (now pool) (now handles) slot - 1)) ⌝ }
+    ensures { λ r. ⌜ outcome r (now (pool .exit)) (now (handles .exit))
+        ≡ rules.removeDone state (now (pool .entry)) (now (handles .entry)) slot position ⌝ }
 {
     let h = handles[slot];
-    let len = numbers::length_at(pool, h);
+    let old = numbers::length_at(pool, h);
     let at = h as usize + position;
-    words::shift_down(pool, at + 1, at, len as usize - (position + 1));
-    steps::resize(state, pool, handles, slot, h, len, len - 1)
+    words::shift_down(pool, at + 1, at, old as usize - (position + 1));
+    steps::resize(state, pool, handles, slot, h, old, old - 1)
 }
 
-// What `swap_remove` does: the element is exchanged with the last, and the last place is given up.
+// Does a `swap_remove`: exchanges the element with the last, and gives up the last place.
 fn swap_remove_done(
     state: ListPool,
     pool: &mut [u32],
@@ -62,39 +65,42 @@ fn swap_remove_done(
     slot: usize,
     position: usize,
 ) -> Answer
-    requires { ⌜ (HasAt (now pool) (now handles) slot position) × (Ready state (now pool) (now handles) slot (lenOf (now pool) (now handles) slot - 1)) ⌝ }
-    ensures { λ r. ⌜ outcome r (now (pool .exit)) (now (handles .exit)) ≡ rules.swapRemoveDone state (now (pool .entry)) (now (handles .entry)) slot position ⌝ }
+    requires { ⌜ (HasAt (now pool) (now handles) slot position)
+        × (Ready state (now pool) (now handles) slot (lenOf (now pool) (now handles) slot - 1)) ⌝ }
+    ensures { λ r. ⌜ outcome r (now (pool .exit)) (now (handles .exit))
+        ≡ rules.swapRemoveDone state (now (pool .entry)) (now (handles .entry)) slot position ⌝ }
 {
     let h = handles[slot];
-    let len = numbers::length_at(pool, h);
+    let old = numbers::length_at(pool, h);
     let at = h as usize + position;
-    let last = h as usize + (len as usize - 1);
+    let last = h as usize + (old as usize - 1);
     let element = pool[at];
     pool[at] = pool[last];
     pool[last] = element;
-    steps::resize(state, pool, handles, slot, h, len, len - 1)
+    steps::resize(state, pool, handles, slot, h, old, old - 1)
 }
 
-// What `truncate` does: to the length or more it does nothing, else the list gets the new length; to 0 it clears.
+// Does a `truncate`: nothing where the new length is the old one or more, else it gives the list the new length; to 0 it clears.
 fn truncate_done(
     state: ListPool,
     pool: &mut [u32],
     handles: &mut [u32],
     slot: usize,
-    n: usize,
+    new: usize,
 ) -> Answer
-    requires { ⌜ Ready state (now pool) (now handles) slot (min (lenOf (now pool) (now handles) slot) n) ⌝ }
-    ensures { λ r. ⌜ outcome r (now (pool .exit)) (now (handles .exit)) ≡ rules.truncateDone state (now (pool .entry)) (now (handles .entry)) slot n ⌝ }
+    requires { ⌜ Ready state (now pool) (now handles) slot (min (lenOf (now pool) (now handles) slot) new) ⌝ }
+    ensures { λ r. ⌜ outcome r (now (pool .exit)) (now (handles .exit))
+        ≡ rules.truncateDone state (now (pool .entry)) (now (handles .entry)) slot new ⌝ }
 {
     let h = handles[slot];
-    let len = numbers::length_at(pool, h);
-    if n >= len as usize {
+    let old = numbers::length_at(pool, h);
+    if new >= old as usize {
         return steps::done(state, 0);
     }
-    steps::resize(state, pool, handles, slot, h, len, n as u32)
+    steps::resize(state, pool, handles, slot, h, old, new as u32)
 }
 
-// Every handle becomes 0.
+// Sets every handle to 0.
 fn empty(handles: &mut [u32])
     ensures { λ r. ⌜ now (handles .exit) ≡ replicate (length (now (handles .entry))) 0 ⌝ }
 {
@@ -105,7 +111,8 @@ fn empty(handles: &mut [u32])
 impl ListPool {
     // Removes all elements from the list in a slot, and gives its block back.
     pub fn clear(mut self, pool: &mut [u32], handles: &mut [u32], slot: usize) -> Answer
-        ensures { λ r. ⌜ outcome r (now (pool .exit)) (now (handles .exit)) ≡ called (rules.clear slot) self (now (pool .entry)) (now (handles .entry)) ⌝ }
+        ensures { λ r. ⌜ outcome r (now (pool .exit)) (now (handles .exit))
+            ≡ called (rules.clear slot) self (now (pool .entry)) (now (handles .entry)) ⌝ }
     {
         let number = clear_list(self.used, &mut self.heads, pool, handles, slot);
         Answer {
@@ -123,7 +130,8 @@ impl ListPool {
         slot: usize,
         position: usize,
     ) -> Answer
-        ensures { λ r. ⌜ outcome r (now (pool .exit)) (now (handles .exit)) ≡ called (rules.remove slot position) self (now (pool .entry)) (now (handles .entry)) ⌝ }
+        ensures { λ r. ⌜ outcome r (now (pool .exit)) (now (handles .exit))
+            ≡ called (rules.remove slot position) self (now (pool .entry)) (now (handles .entry)) ⌝ }
     {
         let number = numbers::remove_number(self.used, &self.heads, pool, handles, slot, position);
         if number != 0 {
@@ -140,7 +148,8 @@ impl ListPool {
         slot: usize,
         position: usize,
     ) -> Answer
-        ensures { λ r. ⌜ outcome r (now (pool .exit)) (now (handles .exit)) ≡ called (rules.swapRemove slot position) self (now (pool .entry)) (now (handles .entry)) ⌝ }
+        ensures { λ r. ⌜ outcome r (now (pool .exit)) (now (handles .exit))
+            ≡ called (rules.swapRemove slot position) self (now (pool .entry)) (now (handles .entry)) ⌝ }
     {
         let number = numbers::remove_number(self.used, &self.heads, pool, handles, slot, position);
         if number != 0 {
@@ -149,20 +158,22 @@ impl ListPool {
         swap_remove_done(self, pool, handles, slot, position)
     }
 
-    // Shortens the list in a slot to n elements; does nothing where it has no more.
-    pub fn truncate(self, pool: &mut [u32], handles: &mut [u32], slot: usize, n: usize) -> Answer
-        ensures { λ r. ⌜ outcome r (now (pool .exit)) (now (handles .exit)) ≡ called (rules.truncate slot n) self (now (pool .entry)) (now (handles .entry)) ⌝ }
+    // Shortens the list in a slot to the new length; does nothing where it is no longer than that.
+    pub fn truncate(self, pool: &mut [u32], handles: &mut [u32], slot: usize, new: usize) -> Answer
+        ensures { λ r. ⌜ outcome r (now (pool .exit)) (now (handles .exit))
+            ≡ called (rules.truncate slot new) self (now (pool .entry)) (now (handles .entry)) ⌝ }
     {
-        let number = numbers::truncate_number(self.used, &self.heads, pool, handles, slot, n);
+        let number = numbers::truncate_number(self.used, &self.heads, pool, handles, slot, new);
         if number != 0 {
             return steps::refused(self, number);
         }
-        truncate_done(self, pool, handles, slot, n)
+        truncate_done(self, pool, handles, slot, new)
     }
 
     // Clears the pool: nothing is used, no block is free, and every list is empty. No word of the pool is touched.
     pub fn clear_pool(self, pool: &[u32], handles: &mut [u32]) -> Answer
-        ensures { λ r. ⌜ outcome r (now (pool .entry)) (now (handles .exit)) ≡ called (rules.clearPool) self (now (pool .entry)) (now (handles .entry)) ⌝ }
+        ensures { λ r. ⌜ outcome r (now (pool .entry)) (now (handles .exit))
+            ≡ called (rules.clearPool) self (now (pool .entry)) (now (handles .entry)) ⌝ }
     {
         if checks::too_long(pool.len(), handles.len()) {
             return steps::refused(self, 1);

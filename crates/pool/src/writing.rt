@@ -8,7 +8,7 @@ use super::Answer;
 use super::ListPool;
 use super::numbers;
 
-// Sets the element, and gives the number of the call.
+// Does a `set`, and returns its number: sets the element where the number is 0.
 fn set_element(
     used: u32,
     pool: &mut [u32],
@@ -29,7 +29,7 @@ fn set_element(
 }
 
 impl ListPool {
-    // The elements of the list in a slot, to be written: a part of the pool, empty where reading the list is refused.
+    // Returns the elements of the list in a slot, to be written: a part of the pool, empty where reading the list is refused.
     pub fn as_mut_slice<'a>(
         self,
         pool: &'a mut [u32],
@@ -53,7 +53,8 @@ impl ListPool {
         position: usize,
         element: u32,
     ) -> Answer
-        ensures { λ r. ⌜ outcome r (now (pool .exit)) (now (handles .entry)) ≡ called (rules.setAt slot position element) self (now (pool .entry)) (now (handles .entry)) ⌝ }
+        ensures { λ r. ⌜ outcome r (now (pool .exit)) (now (handles .entry))
+            ≡ called (rules.setAt slot position element) self (now (pool .entry)) (now (handles .entry)) ⌝ }
     {
         let number = set_element(self.used, pool, handles, slot, position, element);
         Answer {

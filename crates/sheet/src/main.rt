@@ -11,7 +11,7 @@ use sizes::SizeClass;
 // The sheet's M.
 const M: u32 = 4294967295;
 
-// The word at i, and 0 past the last.
+// Returns the word at i, and 0 past the last.
 fn word(words: &[u32], i: usize) -> u32 {
     if i < words.len() {
         return words[i];
@@ -19,7 +19,7 @@ fn word(words: &[u32], i: usize) -> u32 {
     0
 }
 
-// Does a begin with these words, and is every further word of it 0?
+// Returns whether a begins with these words and every further word of it is 0.
 fn holds(a: &[u32], words: &[u32]) -> bool {
     let mut i = 0;
     while i < a.len() {
@@ -31,7 +31,7 @@ fn holds(a: &[u32], words: &[u32]) -> bool {
     words.len() <= a.len()
 }
 
-// Did a call answer this number and value, and leave this used count and these heads, the others 0?
+// Returns whether a call answered this number and value, and left this used count and these heads, the others 0.
 fn answers(a: Answer, number: u32, value: u32, used: u32, heads: &[u32]) -> bool {
     let state = a.state;
     a.number == number && a.value == value && state.used == used && holds(&state.heads, heads)
@@ -47,7 +47,7 @@ fn say(row: &[u8], ok: bool) {
     }
 }
 
-// The state of a cleared pool.
+// Returns the state of a cleared pool.
 fn cleared() -> ListPool {
     ListPool {
         used: 0,
@@ -55,7 +55,7 @@ fn cleared() -> ListPool {
     }
 }
 
-// P1 push 7 on slot 0: returns 0; words 1,7,M,M; handle 1; used 4.
+// Runs P1, push 7 on slot 0: returns 0; words 1,7,M,M; handle 1; used 4.
 fn p1(s: ListPool, pool: &mut [u32], handles: &mut [u32]) -> ListPool
     requires { ⌜ 16 ≤ length (now pool) ⌝ }
 {
@@ -67,7 +67,7 @@ fn p1(s: ListPool, pool: &mut [u32], handles: &mut [u32]) -> ListPool
     a.state
 }
 
-// P2 push 8, 9: words 3,7,8,9.
+// Runs P2, push 8, 9: words 3,7,8,9.
 fn p2(s: ListPool, pool: &mut [u32], handles: &mut [u32]) -> ListPool
     requires { ⌜ 16 ≤ length (now pool) ⌝ }
 {
@@ -81,7 +81,7 @@ fn p2(s: ListPool, pool: &mut [u32], handles: &mut [u32]) -> ListPool
     b.state
 }
 
-// P3 push 10: words 0,0,8,9,4,7,8,9,10,M,M,M; handle 5; head 0 is 1; used 12.
+// Runs P3, push 10: words 0,0,8,9,4,7,8,9,10,M,M,M; handle 5; head 0 is 1; used 12.
 fn p3(s: ListPool, pool: &mut [u32], handles: &mut [u32]) -> ListPool
     requires { ⌜ 16 ≤ length (now pool) ⌝ }
 {
@@ -93,7 +93,7 @@ fn p3(s: ListPool, pool: &mut [u32], handles: &mut [u32]) -> ListPool
     a.state
 }
 
-// P4 push 5 on slot 1: first words 1,5,8,9; handle 1; head 0 is 0.
+// Runs P4, push 5 on slot 1: first words 1,5,8,9; handle 1; head 0 is 0.
 fn p4(s: ListPool, pool: &mut [u32], handles: &mut [u32]) -> ListPool
     requires { ⌜ 16 ≤ length (now pool) ⌝ }
 {
@@ -105,7 +105,7 @@ fn p4(s: ListPool, pool: &mut [u32], handles: &mut [u32]) -> ListPool
     a.state
 }
 
-// P5 remove position 0 of slot 0: words 1,5,8,9,0,0,9,10,10,M,M,M,3,8,9,10; handle 13; head 1 is 5; used 16.
+// Runs P5, remove position 0 of slot 0: words 1,5,8,9,0,0,9,10,10,M,M,M,3,8,9,10; handle 13; head 1 is 5; used 16.
 fn p5(s: ListPool, pool: &mut [u32], handles: &mut [u32]) -> ListPool
     requires { ⌜ 16 ≤ length (now pool) ⌝ }
 {
@@ -117,7 +117,7 @@ fn p5(s: ListPool, pool: &mut [u32], handles: &mut [u32]) -> ListPool
     a.state
 }
 
-// The calls of P1 and P2 in a cleared pool; that none is refused shows in the words and handles that P6 finds.
+// Makes the calls of P1 and P2 in a cleared pool; that none is refused shows in the words and handles that P6 finds.
 fn to_p2(pool: &mut [u32], handles: &mut [u32]) -> ListPool {
     let a = cleared().push(pool, handles, 0, 7);
     let b = a.state.push(pool, handles, 0, 8);
@@ -125,7 +125,7 @@ fn to_p2(pool: &mut [u32], handles: &mut [u32]) -> ListPool {
     c.state
 }
 
-// The calls of P1 to P4.
+// Makes the calls of P1 to P4.
 fn to_p4(pool: &mut [u32], handles: &mut [u32]) -> ListPool {
     let s = to_p2(pool, handles);
     let a = s.push(pool, handles, 0, 10);
@@ -133,7 +133,7 @@ fn to_p4(pool: &mut [u32], handles: &mut [u32]) -> ListPool {
     b.state
 }
 
-// P6 P1 to P5 in a 12-word pool: the remove answers 7, nothing moves.
+// Runs P6, P1 to P5 in a 12-word pool: the remove answers 7, nothing moves.
 fn p6(pool: &mut [u32], handles: &mut [u32])
     requires { ⌜ 12 ≤ length (now pool) ⌝ }
 {
@@ -145,7 +145,7 @@ fn p6(pool: &mut [u32], handles: &mut [u32])
     say(b"P6", ok);
 }
 
-// P7 after P5, push on slot 2: 7, although 8 words are free in class 1.
+// Runs P7, after P5, push on slot 2: 7, although 8 words are free in class 1.
 fn p7(s: ListPool, pool: &mut [u32], handles: &mut [u32]) -> ListPool
     requires { ⌜ 16 ≤ length (now pool) ⌝ }
 {
@@ -157,7 +157,7 @@ fn p7(s: ListPool, pool: &mut [u32], handles: &mut [u32]) -> ListPool
     a.state
 }
 
-// P8 after P5, extend slot 1 by 1,2,3: words 0,0,8,9,4,5,1,2,3,M,M,M,3,8,9,10; handles 13,5,0; head 0 is 1, head 1 is 0.
+// Runs P8, after P5, extend slot 1 by 1,2,3: words 0,0,8,9,4,5,1,2,3,M,M,M,3,8,9,10; handles 13,5,0; head 0 is 1, head 1 is 0.
 // Audit map 2147483648,2,0,1.
 fn p8(s: ListPool, pool: &mut [u32], handles: &mut [u32]) -> ListPool
     requires { ⌜ 16 ≤ length (now pool) ⌝ }
@@ -174,7 +174,7 @@ fn p8(s: ListPool, pool: &mut [u32], handles: &mut [u32]) -> ListPool
     a.state
 }
 
-// P9 P8 with slot 2 set to 5: audit 9, and the map's words become 0. The table is a copy, so that P11 has P8's.
+// Runs P9, P8 with slot 2 set to 5: audit 9, and the map's words become 0. The table is a copy, so that P11 has P8's.
 fn p9(s: ListPool, pool: &[u32], mut handles: [u32; 3])
     requires { ⌜ 16 ≤ length (now pool) ⌝ }
 {
@@ -187,7 +187,7 @@ fn p9(s: ListPool, pool: &[u32], mut handles: [u32; 3])
     );
 }
 
-// P10 lengths 1, 3, 4, 7, 8, 65,535: classes 0, 0, 1, 1, 2, 14.
+// Runs P10, lengths 1, 3, 4, 7, 8, 65,535: classes 0, 0, 1, 1, 2, 14.
 fn p10() {
     let low = SizeClass::for_length(1) == 0
         && SizeClass::for_length(3) == 0
@@ -198,7 +198,7 @@ fn p10() {
     say(b"P10", low && high);
 }
 
-// P11 after P8, truncate slot 1 to 3: words 3,5,1,2,0,0,1,2,3,M,M,M,3,8,9,10; handle 1; head 0 is 0, head 1 is 5.
+// Runs P11, after P8, truncate slot 1 to 3: words 3,5,1,2,0,0,1,2,3,M,M,M,3,8,9,10; handle 1; head 0 is 0, head 1 is 5.
 fn p11(s: ListPool, pool: &mut [u32], handles: &mut [u32])
     requires { ⌜ 16 ≤ length (now pool) ⌝ }
 {
@@ -209,7 +209,7 @@ fn p11(s: ListPool, pool: &mut [u32], handles: &mut [u32])
     say(b"P11", ok);
 }
 
-// P12 list 7,8 in a fresh block, `grow_at` 0 by 1: list 7,7,8.
+// Runs P12, list 7,8 in a fresh block, `grow_at` 0 by 1: list 7,7,8.
 fn p12(pool: &mut [u32], handles: &mut [u32])
     requires { ⌜ 16 ≤ length (now pool) ⌝ }
 {
@@ -225,7 +225,7 @@ fn p12(pool: &mut [u32], handles: &mut [u32])
     say(b"P12", ok);
 }
 
-// The rows in order. P6 and P12 have a pool each; the others share one.
+// Runs the rows in order. P6 and P12 have a pool each; the others share one.
 fn main() {
     let mut pool = [0u32; 16384];
     let mut handles = [0u32; 3];

@@ -1,4 +1,5 @@
--- The laws of classes and sizes, each stated once over the class and never by cases of it. Only the last part reads the number of classes and the longest length.
+-- The laws of classes and sizes, each stated once over the class and never by cases of it. Only the last part reads the number of classes and the
+-- longest length.
 use mathlib.Core.Path.{_≡_, refl, sym, ap, _∙_}
 use mathlib.Core.Logic.{_↔_}
 use Prim.Native.Nat.{ℕ, zero, suc, pred, _+_, _-_, _*_, _/_, _%_, _^_, _≤_, _<_, suc-le-suc}

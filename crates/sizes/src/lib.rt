@@ -14,14 +14,14 @@ impl SizeClass {
     // The longest length that has a class below the count.
     pub const LONGEST: u32 = 65535;
 
-    // The class of a list of n elements, of any 32-bit length: its block has room for the length word and the elements.
+    // Returns the class of a list of n elements, of any 32-bit length: the least whose block has room for the length word and the elements.
     pub fn for_length(n: u32) -> u32
         ensures { λ r. ⌜ ClassOf n r ⌝ }
     {
         30 - u32::leading_zeros(n | 3)
     }
 
-    // The words in a block of the class c; 0 for a class whose size no 64-bit word holds.
+    // Returns how many words a block of the class c has; 0 for a class whose size no 64-bit word holds.
     pub fn size(c: u32) -> usize
         ensures { λ r. ⌜ SizeOf c r ⌝ }
     {

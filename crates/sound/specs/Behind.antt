@@ -27,57 +27,62 @@ use Rattle.sound.specs.Steps.{own, alloc-took, realloc-took, moved-resiz
 use Rattle.sound.specs.Changes.{out}
 use Rattle.sound.specs.ListEffects.{behind}
 
-needs-some : (a b : ℕ) → needsBlock a b ≡ true → 0 < b
+needs-some : (old new : ℕ) → needsBlock old new ≡ true → 0 < new
 unfolding needsBlock
-needs-some a b e = ⊎-elim (λ z. absurd (true≢false (sym (rw z at e)))) (λ p. p) (eq-zero-or-pos b)
+needs-some old new e = ⊎-elim (λ z. absurd (true≢false (sym (rw z at e)))) (λ p. p) (eq-zero-or-pos new)
 
-module _ {st : ListPool} {ws hs : List ℕ} (h a b : ℕ) (H : SoundBut st ws hs (own h a)) (can : CanResize st (length ws) h a b) (e : needsBlock a b ≡ true) (up : a ≤ b) where
-  abbrev new : Taken
-  new = alloc st ws (classOf b)
+module _ {st : ListPool} {ws hs : List ℕ} (h old new : ℕ) (H : SoundBut st ws hs (own h old)) (can : CanResize st (length ws) h old new)
+    (e : needsBlock old new ≡ true) (up : old ≤ new) where
+  abbrev got : Taken
+  got = alloc st ws (classOf new)
 
   abbrev to : Taken
-  to = moved st ws h a b
+  to = moved st ws h old new
 
   -- a longer list that needs a block gets one that is taken, and behind the list its words are as they were then
-  word-behind : (to .block ≡ new .block) × ((j : ℕ) → a < j → j < sizeOf (classOf b) → getD (to .words) (to .block + j) 0 ≡ getD (new .words) (new .block + j) 0)
+  word-behind : (to .block ≡ got .block)
+      × ((j : ℕ) → old < j → j < sizeOf (classOf new) → getD (to .words) (to .block + j) 0 ≡ getD (got .words) (got .block + j) 0)
   unfolding moved realloc
-  word-behind = rw e (go (eq-zero-or-pos a))
+  word-behind = rw e (go (eq-zero-or-pos old))
     where
       m : Taken
-      m = cond (eqb a 0) new (realloc st ws (h - 1) (classOf a) (classOf b) (min a b + 1))
+      m = cond (eqb old 0) got (realloc st ws (h - 1) (classOf old) (classOf new) (min old new + 1))
 
-      go : (a ≡ 0) ⊎ (0 < a) → (m .block ≡ new .block) × ((j : ℕ) → a < j → j < sizeOf (classOf b) → getD (m .words) (m .block + j) 0 ≡ getD (new .words) (new .block + j) 0)
-      go (inl z) = rw (eq-eqb a 0 z) (refl, λ j p q. refl)
+      go : (old ≡ 0) ⊎ (0 < old) → (m .block ≡ got .block)
+          × ((j : ℕ) → old < j → j < sizeOf (classOf new) → getD (m .words) (m .block + j) 0 ≡ getD (got .words) (got .block + j) 0)
+      go (inl z) = rw (eq-eqb old 0 z) (refl, λ j p q. refl)
       go (inr p) =
-          let K : SoundBut st ws hs (span (h - 1) (sizeOf (classOf a)) ∷ []) = rw (ne-eqb a 0 (omega arith)) at H in
-          rw (ne-eqb a 0 (omega arith)) (
+          let K : SoundBut st ws hs (span (h - 1) (sizeOf (classOf old)) ∷ []) = rw (ne-eqb old 0 (omega arith)) at H in
+          rw (ne-eqb old 0 (omega arith)) (
             refl,
-            λ j l q. realloc-took (h - 1) (classOf a) (classOf b) (min a b + 1) K (can-realloc st (length ws) h a b can p e) .2 j (omega arith) q,
+            λ j l q. realloc-took (h - 1) (classOf old) (classOf new) (min old new + 1) K (can-realloc st (length ws) h old new can p e) .2 j (omega arith) q,
           )
 
-  run-behind : (count : ℕ) → a + count ≤ b → take count (drop (to .block + 1 + a) (to .words)) ≡ take count (drop (new .block + 1 + a) (new .words))
+  run-behind : (count : ℕ) → old + count ≤ new → take count (drop (to .block + 1 + old) (to .words)) ≡ take count (drop (got .block + 1 + old) (got .words))
   run-behind count l =
       let (at, word) = word-behind in
-      let T = moved-resized h a b H can (needs-some a b e) .took in
-      let long = alloc-took (classOf b) H (can .room e) .0 .long in
-      let fits = class-fits b (omega (arith, can .most)) in
-      let room : to .block + sizeOf (classOf b) ≤ length ws = omega (arith, T .held .spans .1, T .held .within .below, T .long) in
-      run-ext (to .words) (new .words) (to .block + 1 + a) (new .block + 1 + a) count (omega (arith, T .long)) (omega arith)
+      let T = moved-resized h old new H can (needs-some old new e) .took in
+      let long = alloc-took (classOf new) H (can .room e) .0 .long in
+      let fits = class-fits new (omega (arith, can .most)) in
+      let room : to .block + sizeOf (classOf new) ≤ length ws = omega (arith, T .held .spans .1, T .held .within .below, T .long) in
+      run-ext (to .words) (got .words) (to .block + 1 + old) (got .block + 1 + old) count (omega (arith, T .long)) (omega arith)
       (λ j q.
       ap (λ (i : ℕ). getD (to .words) i 0) (omega arith)
-      ∙ word (1 + a + j) (omega arith) (omega arith)
-      ∙ ap (λ (i : ℕ). getD (new .words) i 0) (omega arith))
+      ∙ word (1 + old + j) (omega arith) (omega arith)
+      ∙ ap (λ (i : ℕ). getD (got .words) i 0) (omega arith))
 
 -- the words of a block that was taken: of a chain's block as they were, of a fresh one MAX
 module _ (st : ListPool) (ws : List ℕ) (c : ℕ) (can : CanAlloc st (length ws) c) (n count : ℕ) where
-  recycled-behind : eqb (headOf st c) 0 ≡ false → take count (drop (alloc st ws c .block + 1 + n) (alloc st ws c .words)) ≡ take count (drop (headOf st c + n) ws)
+  recycled-behind : eqb (headOf st c) 0 ≡ false
+      → take count (drop (alloc st ws c .block + 1 + n) (alloc st ws c .words)) ≡ take count (drop (headOf st c + n) ws)
   unfolding alloc recycled
   recycled-behind e =
       let some : (headOf st c ≡ 0) → ⊥ = eqb-false _ _ e in
       let back : headOf st c - 1 + 1 + n ≡ headOf st c + n = omega arith in
       rw (e, back) refl
 
-  fresh-behind : eqb (headOf st c) 0 ≡ true → n + 1 + count ≤ sizeOf c → take count (drop (alloc st ws c .block + 1 + n) (alloc st ws c .words)) ≡ replicate count MAX
+  fresh-behind : eqb (headOf st c) 0 ≡ true → n + 1 + count ≤ sizeOf c
+      → take count (drop (alloc st ws c .block + 1 + n) (alloc st ws c .words)) ≡ replicate count MAX
   unfolding alloc fresh
   fresh-behind e l =
       let room = can .fresh (eqb-true _ _ e) in
@@ -91,49 +96,52 @@ module _ (st : ListPool) (ws : List ℕ) (c : ℕ) (can : CanAlloc st (length ws
       ∙ sym (ap (λ (i : ℕ). getD (replicate count MAX) i 0) (omega arith) ∙ getD-replicate count j MAX 0 q))
       ∙ take-all count (replicate count MAX) (omega arith))
 
-module _ {st : ListPool} {ws hs : List ℕ} {ls : List (List ℕ)} (P : SoundWith st ws hs ls) (slot count : ℕ) (r : Ready st ws hs slot (lenOf ws hs slot + count)) where
-  abbrev size : ℕ
-  size = lenOf ws hs slot
+module _ {st : ListPool} {ws hs : List ℕ} {ls : List (List ℕ)} (P : SoundWith st ws hs ls)
+    (slot count : ℕ) (r : Ready st ws hs slot (lenOf ws hs slot + count)) where
+  abbrev old : ℕ
+  old = lenOf ws hs slot
 
   abbrev block : Taken
-  block = moved st ws (handleAt hs slot) size (size + count)
+  block = moved st ws (handleAt hs slot) old (old + count)
 
   -- the words behind a list that has grown
   abbrev found : List ℕ
-  found = take count (drop (handleAt (grown st ws hs slot count .handles) slot + size) (grown st ws hs slot count .words))
+  found = take count (drop (handleAt (grown st ws hs slot count .handles) slot + old) (grown st ws hs slot count .words))
 
   -- they are those of its block
-  found-in : 0 < size + count → found ≡ take count (drop (block .block + 1 + size) (block .words))
+  found-in : 0 < old + count → found ≡ take count (drop (block .block + 1 + old) (block .words))
   unfolding grown
   found-in p =
-      rw (ne-eqb (size + count) 0 (omega arith), getD-set-same hs slot (block .block + 1) 0 (r .inside), drop-set-lt (block .block + 1 + size) (block .words) (block .block) (size + count) (omega arith)) refl
+      let at = getD-set-same hs slot (block .block + 1) 0 (r .inside) in
+      let rest = drop-set-lt (block .block + 1 + old) (block .words) (block .block) (old + count) (omega arith) in
+      rw (ne-eqb (old + count) 0 (omega arith), at, rest) refl
 
-  found-own : needsBlock size (size + count) ≡ false → found ≡ take count (drop (handleAt hs slot + size) ws)
+  found-own : needsBlock old (old + count) ≡ false → found ≡ take count (drop (handleAt hs slot + old) ws)
   unfolding grown moved
-  found-own e = go (eq-zero-or-pos (size + count))
+  found-own e = go (eq-zero-or-pos (old + count))
     where
-      go : (size + count ≡ 0) ⊎ (0 < size + count) → found ≡ take count (drop (handleAt hs slot + size) ws)
-      go (inl z) = rw (eq-eqb (size + count) 0 z) refl
+      go : (old + count ≡ 0) ⊎ (0 < old + count) → found ≡ take count (drop (handleAt hs slot + old) ws)
+      go (inl z) = rw (eq-eqb (old + count) 0 z) refl
       go (inr p) =
-          let s = stays size (size + count) p e in
+          let s = stays old (old + count) p e in
           let back : handleAt hs slot - 1 + 1 ≡ handleAt hs slot = omega (arith, r .can .list .some (s .some)) in
           found-in p ∙ rw (e, back) refl
 
   -- what stands behind it is what `behind` of ListEffects says
   pub behind-is : found ≡ behind st ws hs slot count
   unfolding behind
-  behind-is = go (needsBlock size (size + count)) refl (eqb (headOf st c) 0) refl
+  behind-is = go (needsBlock old (old + count)) refl (eqb (headOf st c) 0) refl
     where
       c : ℕ
-      c = classOf (size + count)
+      c = classOf (old + count)
 
-      new : needsBlock size (size + count) ≡ true → found ≡ take count (drop (alloc st ws c .block + 1 + size) (alloc st ws c .words))
-      new e =
-          found-in (needs-some size (size + count) e)
-          ∙ run-behind (handleAt hs slot) size (size + count) (out P slot (r .inside)) (r .can) e (omega arith) count (omega arith)
+      in-new : needsBlock old (old + count) ≡ true → found ≡ take count (drop (alloc st ws c .block + 1 + old) (alloc st ws c .words))
+      in-new e =
+          found-in (needs-some old (old + count) e)
+          ∙ run-behind (handleAt hs slot) old (old + count) (out P slot (r .inside)) (r .can) e (omega arith) count (omega arith)
 
-      go : (t : Bool) → needsBlock size (size + count) ≡ t → (u : Bool) → eqb (headOf st c) 0 ≡ u
-          → found ≡ cond t (cond u (replicate count MAX) (take count (drop (headOf st c + size) ws))) (take count (drop (handleAt hs slot + size) ws))
-      go true e true z = new e ∙ fresh-behind st ws c (r .can .room e) size count z (omega (arith, class-fits (size + count) (omega (arith, r .can .most))))
-      go true e false z = new e ∙ recycled-behind st ws c (r .can .room e) size count z
+      go : (t : Bool) → needsBlock old (old + count) ≡ t → (u : Bool) → eqb (headOf st c) 0 ≡ u
+          → found ≡ cond t (cond u (replicate count MAX) (take count (drop (headOf st c + old) ws))) (take count (drop (handleAt hs slot + old) ws))
+      go true e true z = in-new e ∙ fresh-behind st ws c (r .can .room e) old count z (omega (arith, class-fits (old + count) (omega (arith, r .can .most))))
+      go true e false z = in-new e ∙ recycled-behind st ws c (r .can .room e) old count z
       go false e u z = found-own e

@@ -135,7 +135,8 @@ pub record SoundWithSet (st : ListPool) (ws hs : List ℕ) (ls : List (List ℕ)
 abbrev pub LeavesWithSet : Outcome → List (List ℕ) → ℕ → List ℕ → Type 0
 LeavesWithSet o ls slot l = SoundWithSet (o .answer .state) (o .words) (o .handles) ls slot l
 
-pub has : {st : ListPool} {ws hs : List ℕ} {ls : List (List ℕ)} (slot : ℕ) → SoundWith st ws hs ls → slot < length hs → SoundWithSet st ws hs ls slot (listAt ls slot)
+pub has : {st : ListPool} {ws hs : List ℕ} {ls : List (List ℕ)} (slot : ℕ)
+    → SoundWith st ws hs ls → slot < length hs → SoundWithSet st ws hs ls slot (listAt ls slot)
 has {ls = ls} slot P l = record { inside = omega (arith, length-lists P); holds = rw (set-getD ls slot []) P }
 
 module _ {st : ListPool} {ws hs : List ℕ} {ls : List (List ℕ)} {slot : ℕ} {l : List ℕ} (P : SoundWithSet st ws hs ls slot l) where
@@ -158,7 +159,8 @@ module _ {st : ListPool} {ws hs : List ℕ} {ls : List (List ℕ)} {slot : ℕ} 
   has-at i r = list-element (P .holds) slot i (omega (arith, has-length)) ∙ ap (λ (r : List ℕ). getD r i 0) has-list
 
   -- and of another slot's list, which is as in ls
-  pub other-part : (other p k : ℕ) → (other ≡ slot → ⊥) → p + k ≤ length (listAt ls other) → take k (drop (handleAt hs other + p) ws) ≡ take k (drop p (listAt ls other))
+  pub other-part : (other p k : ℕ) → (other ≡ slot → ⊥) → p + k ≤ length (listAt ls other)
+      → take k (drop (handleAt hs other + p) ws) ≡ take k (drop p (listAt ls other))
   other-part other p k q r =
       let same : listAt (set ls slot l) other ≡ listAt ls other = getD-set-other ls slot other l [] q in
       list-part (P .holds) other p k (omega (arith, ap length same, length-list (P .holds) other)) ∙ ap (λ (r : List ℕ). take k (drop p r)) same
@@ -189,43 +191,43 @@ module _ {st : ListPool} {ws hs : List ℕ} {ls : List (List ℕ)} {slot : ℕ} 
   written p [] r = P
   written p (v ∷ vs) r = let n = has-length in written-some p (v ∷ vs) (omega arith) (omega arith)
 
-  -- the list gets b elements, some: those that it has and had are as they were
-  resized : (b : ℕ) → Ready st ws hs slot b → 0 < b
-      → (xs : List ℕ) × (length xs ≡ b) × (take (min (length l) b) xs ≡ take (min (length l) b) l)
-      × LeavesWithSet (seated 0 (moved st ws (handleAt hs slot) (lenOf ws hs slot) b) hs slot b) ls slot xs
-  resized b ready p =
+  -- the list gets the new length, some: the elements that it has and had are as they were
+  resized : (new : ℕ) → Ready st ws hs slot new → 0 < new
+      → (xs : List ℕ) × (length xs ≡ new) × (take (min (length l) new) xs ≡ take (min (length l) new) l)
+      × LeavesWithSet (seated 0 (moved st ws (handleAt hs slot) (lenOf ws hs slot) new) hs slot new) ls slot xs
+  resized new ready p =
       let h = handleAt hs slot in
-      let n = lenOf ws hs slot in
-      let t = moved st ws h n b in
-      let R = moved-resized h n b (out (P .holds) slot has-here) (ready .can) p in
+      let old = lenOf ws hs slot in
+      let t = moved st ws h old new in
+      let R = moved-resized h old new (out (P .holds) slot has-here) (ready .can) p in
       let T = R .took in
-      let vs = set (t .words) (t .block) b in
-      let fits = class-fits b (omega (arith, ready .can .most)) in
-      let room : t .block + sizeOf (classOf b) ≤ length (t .words) = omega (arith, T .held .spans .1, T .held .within .below) in
-      let long = length-set (t .words) (t .block) b in
+      let vs = set (t .words) (t .block) new in
+      let fits = class-fits new (omega (arith, ready .can .most)) in
+      let room : t .block + sizeOf (classOf new) ≤ length (t .words) = omega (arith, T .held .spans .1, T .held .within .below) in
+      let long = length-set (t .words) (t .block) new in
       let F =
-      finish hs ls slot (t .block) b (sizeOf (classOf b)) vs (T .held) (T .same ∙ has-out) has-here long
-      (λ i o. getD-set-other (t .words) (t .block) i b 0 (λ e. omega (arith, over-in (t .block) (sizeOf (classOf b)) i (omega arith) (omega arith))))
-      (getD-set-same (t .words) (t .block) b 0 (omega arith)) p refl in
-      let kept : take (min n b) (take b (drop (t .block + 1) vs)) ≡ take (min n b) l =
-      take-take (min n b) b (drop (t .block + 1) vs) (omega arith)
-      ∙ ap (take (min n b)) (drop-set-lt (t .block + 1) (t .words) (t .block) b (omega arith))
+      finish hs ls slot (t .block) new (sizeOf (classOf new)) vs (T .held) (T .same ∙ has-out) has-here long
+      (λ i o. getD-set-other (t .words) (t .block) i new 0 (λ e. omega (arith, over-in (t .block) (sizeOf (classOf new)) i (omega arith) (omega arith))))
+      (getD-set-same (t .words) (t .block) new 0 (omega arith)) p refl in
+      let kept : take (min old new) (take new (drop (t .block + 1) vs)) ≡ take (min old new) l =
+      take-take (min old new) new (drop (t .block + 1) vs) (omega arith)
+      ∙ ap (take (min old new)) (drop-set-lt (t .block + 1) (t .words) (t .block) new (omega arith))
       ∙ R .elements
-      ∙ sym (ap (take (min n b)) has-is ∙ take-take (min n b) n (drop h ws) (omega arith)) in (
-        take b (drop (t .block + 1) vs),
-        length-take-drop vs (t .block + 1) b (omega arith),
+      ∙ sym (ap (take (min old new)) has-is ∙ take-take (min old new) old (drop h ws) (omega arith)) in (
+        take new (drop (t .block + 1) vs),
+        length-take-drop vs (t .block + 1) new (omega arith),
         rw has-length kept,
         record { inside = P .inside; holds = F },
       )
 
   -- the same list shorter
-  pub shrunk : (b : ℕ) → Ready st ws hs slot b → 0 < b → b ≤ length l
-      → LeavesWithSet (seated 0 (moved st ws (handleAt hs slot) (lenOf ws hs slot) b) hs slot b) ls slot (take b l)
-  shrunk b ready p q =
-      let (xs, n, e, F) = resized b ready p in
-      let m : min (length l) b ≡ b = omega arith in
-      let new : xs ≡ take b l = sym (take-all b xs (omega arith)) ∙ rw m at e in
-      rw (← new) F
+  pub shrunk : (new : ℕ) → Ready st ws hs slot new → 0 < new → new ≤ length l
+      → LeavesWithSet (seated 0 (moved st ws (handleAt hs slot) (lenOf ws hs slot) new) hs slot new) ls slot (take new l)
+  shrunk new ready p q =
+      let (xs, k, e, F) = resized new ready p in
+      let m : min (length l) new ≡ new = omega arith in
+      let is : xs ≡ take new l = sym (take-all new xs (omega arith)) ∙ rw m at e in
+      rw (← is) F
 
   -- the same list with count elements more at its end, whatever stood there
   pub grew : (count : ℕ) → Ready st ws hs slot (lenOf ws hs slot + count)
@@ -233,20 +235,22 @@ module _ {st : ListPool} {ws hs : List ℕ} {ls : List (List ℕ)} {slot : ℕ} 
   unfolding grown
   grew count ready = go (eq-zero-or-pos (lenOf ws hs slot + count))
     where
-      n : ℕ
-      n = lenOf ws hs slot
+      old : ℕ
+      old = lenOf ws hs slot
 
-      go : (n + count ≡ 0) ⊎ (0 < n + count)
+      go : (old + count ≡ 0) ⊎ (0 < old + count)
           → (zs : List ℕ) × (length zs ≡ count)
-          × LeavesWithSet (cond (eqb (n + count) 0) (done 0 st ws hs) (seated 0 (moved st ws (handleAt hs slot) n (n + count)) hs slot (n + count))) ls slot (l ++ zs)
-      go (inl z) = ([], omega arith, rw (eq-eqb (n + count) 0 z, append-nil l) P)
+          × LeavesWithSet
+          (cond (eqb (old + count) 0) (done 0 st ws hs) (seated 0 (moved st ws (handleAt hs slot) old (old + count)) hs slot (old + count)))
+          ls slot (l ++ zs)
+      go (inl z) = ([], omega arith, rw (eq-eqb (old + count) 0 z, append-nil l) P)
       go (inr p) =
           let k = has-length in
-          let (xs, d, e, F) = resized (n + count) ready p in
-          let m : min (length l) (n + count) ≡ length l = omega arith in
+          let (xs, d, e, F) = resized (old + count) ready p in
+          let m : min (length l) (old + count) ≡ length l = omega arith in
           let front : take (length l) xs ≡ l = (rw m at e) ∙ take-length l in
           let all : l ++ drop (length l) xs ≡ xs = ap (λ (r : List ℕ). r ++ drop (length l) xs) (sym front) ∙ take-append-drop (length l) xs in
-          (drop (length l) xs, length-drop (length l) xs ∙ omega arith, rw (ne-eqb (n + count) 0 (omega arith), all) F)
+          (drop (length l) xs, length-drop (length l) xs ∙ omega arith, rw (ne-eqb (old + count) 0 (omega arith), all) F)
 
   -- the list is cleared
   pub emptied : LeavesWithSet (cleared st ws hs slot (handleAt hs slot) (lenOf ws hs slot)) ls slot []

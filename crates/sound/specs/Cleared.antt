@@ -68,6 +68,7 @@ unfolding numberOf clearPoolNumber tooLong given
 clear-pool-zero st ws hs pool table = rw (le-ltb poolLimit (length ws) pool, le-ltb tableLimit (length hs) table)
 
 -- both: whatever the state, the words and the handles were, the pool's `clear` within the limits is done
-pub cleared-holds : (st : ListPool) (ws hs : List ℕ) → length ws ≤ poolLimit → length hs ≤ tableLimit → LeavesWith (called clearPool st ws hs) (replicate (length hs) [])
+pub cleared-holds : (st : ListPool) (ws hs : List ℕ) → length ws ≤ poolLimit → length hs ≤ tableLimit
+    → LeavesWith (called clearPool st ws hs) (replicate (length hs) [])
 unfolding called unless
 cleared-holds st ws hs pool table = let e = clear-pool-zero st ws hs pool table in rw e (clear-pool-holds st ws hs e)

@@ -15,7 +15,8 @@ use Rattle.words.specs.RunLaws.{length-take-drop}
 use Rattle.pool.specs.declared.ListPool.{ListPool}
 use Rattle.pool.specs.Numbers.{handleAt}
 use Rattle.pool.specs.Blocks.{moved}
-use Rattle.pool.specs.Rules.{lenOf, done, seated, deepClone, copyFrom, numberOf, doneOf, grown, opened, deepCloneNumber, copyFromNumber, deepCloneDone, copyFromDone}
+use Rattle.pool.specs.Rules.{lenOf, done, seated, deepClone, copyFrom, numberOf, doneOf, grown, opened}
+use Rattle.pool.specs.Rules.{deepCloneNumber, copyFromNumber, deepCloneDone, copyFromDone}
 use Rattle.pool.specs.Facts.{given-zero, neither, else-first, else-second, entry-facts₂, ready, ready-empty}
 use Rattle.sound.specs.Sound.{listAt, SoundWith, LeavesWith}
 use Rattle.sound.specs.Changes.{SoundWithSet, LeavesWithSet, has, other-part, length-list, list-here, list-empty, written, grew}
@@ -25,13 +26,18 @@ use Rattle.sound.specs.ListEffects.{behind}
 use Rattle.sound.specs.Grow.{opens}
 
 -- no other handle changes where a list grows
-grown-other : (st : ListPool) (ws hs : List ℕ) (slot count other : ℕ) → (other ≡ slot → ⊥) → handleAt (grown st ws hs slot count .handles) other ≡ handleAt hs other
+grown-other : (st : ListPool) (ws hs : List ℕ) (slot count other : ℕ) → (other ≡ slot → ⊥)
+    → handleAt (grown st ws hs slot count .handles) other ≡ handleAt hs other
 unfolding grown
 grown-other st ws hs slot count other q = go (eqb (lenOf ws hs slot + count) 0)
   where
-    go : (t : Bool) → handleAt (cond t (done 0 st ws hs) (seated 0 (moved st ws (handleAt hs slot) (lenOf ws hs slot) (lenOf ws hs slot + count)) hs slot (lenOf ws hs slot + count)) .handles) other ≡ handleAt hs other
+    new : ℕ
+    new = lenOf ws hs slot + count
+
+    go : (t : Bool) → handleAt (cond t (done 0 st ws hs) (seated 0 (moved st ws (handleAt hs slot) (lenOf ws hs slot) new) hs slot new) .handles) other
+        ≡ handleAt hs other
     go true = refl
-    go false = getD-set-other hs slot other (moved st ws (handleAt hs slot) (lenOf ws hs slot) (lenOf ws hs slot + count) .block + 1) 0 q
+    go false = getD-set-other hs slot other (moved st ws (handleAt hs slot) (lenOf ws hs slot) new .block + 1) 0 q
 
 module _ {st : ListPool} {ws hs : List ℕ} {ls : List (List ℕ)} (P : SoundWith st ws hs ls) where
   -- a list is read where it was, after another, empty list has grown; the empty list itself has nothing to read
@@ -78,7 +84,8 @@ module _ {st : ListPool} {ws hs : List ℕ} {ls : List (List ℕ)} (P : SoundWit
       let n = length-list P slot in
       let m = length-list P source in
       let q : (source ≡ slot) → ⊥ = λ x. clash (rw x refl) in
-      let (k, O) = opens (has slot P (f .inside)) p (end - start) (omega arith) (ready st ws hs slot (lenOf ws hs slot + (end - start)) f (else-second _ _ e3)) in
+      let r = ready st ws hs slot (lenOf ws hs slot + (end - start)) f (else-second _ _ e3) in
+      let (k, O) = opens (has slot P (f .inside)) p (end - start) (omega arith) r in
       let zs = behind st ws hs slot (end - start) in
       let ys = take (end - start) (drop start (listAt ls source)) in
       let d : length ys ≡ end - start = length-take-drop (listAt ls source) start (end - start) (omega arith) in

@@ -62,7 +62,8 @@ sum-two f l j k d ne g h = go (decLt j k)
     go (no q) = omega (arith, sum-ge-two f l k j d (omega arith) g)
 
 -- a handle's block is counted over each of its words, and over no other
-live-over : (ws hs : List ℕ) (slot i : ℕ) → handleAt hs slot ≢ 0 → liveOver ws i (handleAt hs slot) ≡ over (handleAt hs slot - 1) (sizeOf (classOf (lenOf ws hs slot))) i
+live-over : (ws hs : List ℕ) (slot i : ℕ) → handleAt hs slot ≢ 0
+    → liveOver ws i (handleAt hs slot) ≡ over (handleAt hs slot - 1) (sizeOf (classOf (lenOf ws hs slot))) i
 unfolding liveOver lengthAt
 live-over ws hs slot i ne = rw (ne-eqb (handleAt hs slot) 0 ne)
 
@@ -180,7 +181,9 @@ module _ {st : ListPool} {ws hs : List ℕ} {fs : List (List ℕ)} (C : Cut st w
   start-one p q B D e =
       let m = words-some p in
       let n = words-some q in
-      word-in-one (startOf hs fs p) p q (record { block = B; from = omega arith; to = omega arith }) (record { block = D; from = omega arith; to = omega arith })
+      word-in-one (startOf hs fs p) p q
+      (record { block = B; from = omega arith; to = omega arith })
+      (record { block = D; from = omega arith; to = omega arith })
 
   on-block : (c k b : ℕ) → OnChain fs c k b → Block hs fs (free c k)
   on-block c k b (l, e) = (go (decLt c (length fs)), l)
@@ -212,7 +215,8 @@ not-shared (fs, C) slot other ne l r some e =
 -- The free blocks are settled by the words: a sound pool is cut in one way.
 pub cut-unique : {st : ListPool} {ws hs : List ℕ} {fs gs : List (List ℕ)} → Cut st ws hs fs → Cut st ws hs gs → fs ≡ gs
 cut-unique {st} {ws} {fs = fs} {gs = gs} C D =
-    ext-getD [] fs gs (C .classes ∙ sym (D .classes)) (λ c l. chain-unique (st .used) ws c (headOf st c) (getD fs c []) (getD gs c []) (C .chains c) (D .chains c))
+    ext-getD [] fs gs (C .classes ∙ sym (D .classes))
+    (λ c l. chain-unique (st .used) ws c (headOf st c) (getD fs c []) (getD gs c []) (C .chains c) (D .chains c))
   where
     chain-unique : (used : ℕ) (ws : List ℕ) (c h : ℕ) (bs ds : List ℕ) → Chain used ws c h bs → Chain used ws c h ds → bs ≡ ds
     chain-unique used ws c h [] [] p q = refl
@@ -256,8 +260,10 @@ words-add-up {st} {ws} {hs} {fs} C =
       upto-sum u (λ i slot h. liveOver ws i h) hs,
       upto-sum u freeOver fs,
       upto-over 0 u u (omega arith),
-      sum-cong (λ slot h. upto u (λ i. liveOver ws i h)) (λ slot h. blockFor (lengthAt ws h)) hs 0 (λ slot l. live-total u ws (handleAt hs slot) (C .handles slot)),
-      sum-cong (λ c bs. upto u (λ i. freeOver i c bs)) (λ c bs. sizeOf c * length bs) fs [] (λ c l. chain-total u ws c (headOf st c) (getD fs c []) (C .chains c)),
+      sum-cong (λ slot h. upto u (λ i. liveOver ws i h)) (λ slot h. blockFor (lengthAt ws h)) hs 0
+          (λ slot l. live-total u ws (handleAt hs slot) (C .handles slot)),
+      sum-cong (λ c bs. upto u (λ i. freeOver i c bs)) (λ c bs. sizeOf c * length bs) fs []
+          (λ c l. chain-total u ws c (headOf st c) (getD fs c []) (C .chains c)),
     )
 
 -- The live blocks, the free blocks and the unused tail add up to the pool.
@@ -284,5 +290,6 @@ lists-at-most {st} {ws} {hs} P =
       sum-cong (λ slot h. blockFor (length (listOf ws h))) (λ slot h. blockFor (lengthAt ws h)) hs 0
           (λ slot l.
           ap blockFor
-          (length-take-drop ws (handleAt hs slot) (lenOf ws hs slot) (list-at (st .used) ws (handleAt hs slot) (W .below) (W .pool-limit) (C .handles slot) .ends))),
+          (length-take-drop ws (handleAt hs slot) (lenOf ws hs slot)
+          (list-at (st .used) ws (handleAt hs slot) (W .below) (W .pool-limit) (C .handles slot) .ends))),
     ))

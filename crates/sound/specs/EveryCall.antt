@@ -9,7 +9,9 @@ use lib.ListN.{length, set}
 use lib.Seq.{getD-set-other}
 use lib.Dec.{eqb}
 use Rattle.pool.specs.declared.ListPool.{ListPool}
-use Rattle.pool.specs.Rules.{Outcome, refused, isEmptyDone, lenDone, isValidDone, getDone, Call, fromSlice, isEmpty, len, isValid, get, first, setAt, deepClone, clear, take, push, extend, copyFrom, insert, remove, swapRemove, truncate, growAt, clearPool, numberOf, doneOf, unless, called}
+use Rattle.pool.specs.Rules.{Outcome, refused, numberOf, doneOf, unless, called, isEmptyDone, lenDone, isValidDone, getDone}
+use Rattle.pool.specs.Rules.{Call, fromSlice, isEmpty, len, isValid, get, first, setAt, deepClone, clear, take, push}
+use Rattle.pool.specs.Rules.{extend, copyFrom, insert, remove, swapRemove, truncate, growAt, clearPool}
 use Rattle.pool.specs.Facts.{Within}
 use Rattle.sound.specs.Sound.{Sound, lists, listAt, SoundWith, LeavesWith}
 use Rattle.sound.specs.ListEffects.{behind, listsAfter, Target}
@@ -27,20 +29,20 @@ module _ {st : ListPool} {ws hs : List ℕ} {ls : List (List ℕ)} (P : SoundWit
   done-holds (isEmpty slot) e = P
   done-holds (len slot) e = P
   done-holds (isValid slot) e = P
-  done-holds (get slot p) e = P
+  done-holds (get slot position) e = P
   done-holds (first slot) e = P
-  done-holds (setAt slot p x) e = set-holds P slot p x e
+  done-holds (setAt slot position x) e = set-holds P slot position x e
   done-holds (deepClone slot to) e = deep-clone-holds P slot to e
   done-holds (clear slot) e = clear-holds P slot e
   done-holds (take slot to) e = take-holds P slot to e
   done-holds (push slot x) e = push-holds P slot x e
   done-holds (extend slot xs) e = extend-holds P slot xs e
-  done-holds (copyFrom slot source start end p) e = copy-from-holds P slot source start end p e
-  done-holds (insert slot p x) e = insert-holds P slot p x e
-  done-holds (remove slot p) e = remove-holds P slot p e
-  done-holds (swapRemove slot p) e = swap-remove-holds P slot p e
-  done-holds (truncate slot n) e = truncate-holds P slot n e
-  done-holds (growAt slot p count) e = grow-at-holds P slot p count e
+  done-holds (copyFrom slot source start end position) e = copy-from-holds P slot source start end position e
+  done-holds (insert slot position x) e = insert-holds P slot position x e
+  done-holds (remove slot position) e = remove-holds P slot position e
+  done-holds (swapRemove slot position) e = swap-remove-holds P slot position e
+  done-holds (truncate slot new) e = truncate-holds P slot new e
+  done-holds (growAt slot position count) e = grow-at-holds P slot position count e
   done-holds clearPool e = rw (length-lists P) (clear-pool-holds st ws hs e)
 
   -- a call is done, or it is refused and changes nothing
@@ -53,7 +55,8 @@ module _ {st : ListPool} {ws hs : List ℕ} {ls : List (List ℕ)} (P : SoundWit
       after : Bool → Outcome
       after t = cond t (doneOf call st ws hs) (refused st ws hs (numberOf call st ws hs))
 
-      go : (t : Bool) → eqb (numberOf call st ws hs) 0 ≡ t → LeavesWith (after t) (listsAfter (behind st ws hs) call ls) ⊎ ((after t .answer .number ≡ 0 → ⊥) × LeavesWith (after t) ls)
+      go : (t : Bool) → eqb (numberOf call st ws hs) 0 ≡ t
+          → LeavesWith (after t) (listsAfter (behind st ws hs) call ls) ⊎ ((after t .answer .number ≡ 0 → ⊥) × LeavesWith (after t) ls)
       go true q = inl (done-holds call (eqb-true _ _ q))
       go false q = inr (eqb-false _ _ q, P)
 
@@ -68,21 +71,21 @@ other bs (fromSlice slot xs) ls k q = getD-set-other ls slot k _ [] q
 other bs (isEmpty slot) ls k q = refl
 other bs (len slot) ls k q = refl
 other bs (isValid slot) ls k q = refl
-other bs (get slot p) ls k q = refl
+other bs (get slot position) ls k q = refl
 other bs (first slot) ls k q = refl
-other bs (setAt slot p x) ls k q = getD-set-other ls slot k _ [] q
+other bs (setAt slot position x) ls k q = getD-set-other ls slot k _ [] q
 other bs (deepClone slot to) ls k q = getD-set-other ls to k _ [] q
 other bs (clear slot) ls k q = getD-set-other ls slot k _ [] q
 other bs (take slot to) ls k q =
     getD-set-other (set ls to (listAt ls slot)) slot k [] [] (λ e. q (inl e)) ∙ getD-set-other ls to k (listAt ls slot) [] (λ e. q (inr e))
 other bs (push slot x) ls k q = getD-set-other ls slot k _ [] q
 other bs (extend slot xs) ls k q = getD-set-other ls slot k _ [] q
-other bs (copyFrom slot source start end p) ls k q = getD-set-other ls slot k _ [] q
-other bs (insert slot p x) ls k q = getD-set-other ls slot k _ [] q
-other bs (remove slot p) ls k q = getD-set-other ls slot k _ [] q
-other bs (swapRemove slot p) ls k q = getD-set-other ls slot k _ [] q
-other bs (truncate slot n) ls k q = getD-set-other ls slot k _ [] q
-other bs (growAt slot p count) ls k q = getD-set-other ls slot k _ [] q
+other bs (copyFrom slot source start end position) ls k q = getD-set-other ls slot k _ [] q
+other bs (insert slot position x) ls k q = getD-set-other ls slot k _ [] q
+other bs (remove slot position) ls k q = getD-set-other ls slot k _ [] q
+other bs (swapRemove slot position) ls k q = getD-set-other ls slot k _ [] q
+other bs (truncate slot new) ls k q = getD-set-other ls slot k _ [] q
+other bs (growAt slot position count) ls k q = getD-set-other ls slot k _ [] q
 other bs clearPool ls k q = absurd (q tt)
 
 -- a sound pool within paper 01's limits, after a call

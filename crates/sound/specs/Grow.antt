@@ -12,7 +12,8 @@ use Rattle.words.specs.RunLaws.{length-take-drop}
 use Rattle.pool.specs.declared.ListPool.{ListPool}
 use Rattle.pool.specs.Numbers.{handleAt}
 use Rattle.pool.specs.Blocks.{moved}
-use Rattle.pool.specs.Rules.{lenOf, fromSlice, push, extend, insert, growAt, numberOf, doneOf, grown, opened, fromSliceNumber, pushDone, extendDone, fromSliceDone, insertDone, growAtDone}
+use Rattle.pool.specs.Rules.{lenOf, fromSlice, push, extend, insert, growAt, numberOf, doneOf, grown, opened}
+use Rattle.pool.specs.Rules.{fromSliceNumber, pushDone, extendDone, fromSliceDone, insertDone, growAtDone}
 use Rattle.pool.specs.Steps.{Ready}
 use Rattle.pool.specs.Facts.{given-zero, else-first, else-second, entry-facts, grow-facts, grow-at-facts, ready-empty}
 use Rattle.sound.specs.Sound.{listAt, SoundWith, LeavesWith}
@@ -35,21 +36,24 @@ module _ {st : ListPool} {ws hs : List ℕ} {ls : List (List ℕ)} {slot : ℕ} 
   pushed : (x : ℕ) → Ready st ws hs slot (lenOf ws hs slot + 1) → LeavesWithSet (pushDone st ws hs slot x) ls slot (l ++ x ∷ [])
   unfolding pushDone extendDone grown stored
   pushed x r =
-      let n = lenOf ws hs slot in
-      let m = moved st ws (handleAt hs slot) n (n + 1) in
+      let old = lenOf ws hs slot in
+      let m = moved st ws (handleAt hs slot) old (old + 1) in
       let at = getD-set-same hs slot (m .block + 1) 0 (r .inside) in
-      let order : set (set (m .words) (m .block + (n + 1)) x) (m .block) (n + 1) ≡ set (set (m .words) (m .block) (n + 1)) (handleAt (set hs slot (m .block + 1)) slot + n) x =
-      set-comm (m .words) (m .block + (n + 1)) (m .block) x (n + 1) (omega arith)
-      ∙ ap (λ (k : ℕ). set (set (m .words) (m .block) (n + 1)) k x) (omega arith) in
-      rw order (rw (ne-eqb (n + 1) 0 (omega arith)) at (extended (x ∷ []) r))
+      let order : set (set (m .words) (m .block + (old + 1)) x) (m .block) (old + 1)
+      ≡ set (set (m .words) (m .block) (old + 1)) (handleAt (set hs slot (m .block + 1)) slot + old) x =
+      set-comm (m .words) (m .block + (old + 1)) (m .block) x (old + 1) (omega arith)
+      ∙ ap (λ (k : ℕ). set (set (m .words) (m .block) (old + 1)) k x) (omega arith) in
+      rw order (rw (ne-eqb (old + 1) 0 (omega arith)) at (extended (x ∷ []) r))
 
 module _ {st : ListPool} {ws hs : List ℕ} {ls : List (List ℕ)} {slot : ℕ} (l zs : List ℕ) (L : SoundWithSet st ws hs ls slot (l ++ zs)) where
   -- the first elements are shifted up over the last
-  shifted : (p : ℕ) → p ≤ length l → SoundWithSet st (copied ws (handleAt hs slot + p) (handleAt hs slot + p + length zs) (length l - p)) hs ls slot (openAt p zs l)
+  shifted : (p : ℕ) → p ≤ length l
+      → SoundWithSet st (copied ws (handleAt hs slot + p) (handleAt hs slot + p + length zs) (length l - p)) hs ls slot (openAt p zs l)
   unfolding copied openAt
   shifted p h =
       let n = length-append l zs in
-      let W = written L (p + length zs) (take (length l - p) (drop p (l ++ zs))) (rw (length-take-drop (l ++ zs) p (length l - p) (omega arith)) (omega arith)) in
+      let tail = take (length l - p) (drop p (l ++ zs)) in
+      let W = written L (p + length zs) tail (rw (length-take-drop (l ++ zs) p (length l - p) (omega arith)) (omega arith)) in
       rw (add-assoc (handleAt hs slot) p (length zs), has-part L p (length l - p) (omega arith), ← (sets-open l zs p h)) W
 
   -- the last stand behind the first
@@ -68,7 +72,8 @@ module _ {st : ListPool} {ws hs : List ℕ} {ls : List (List ℕ)} {slot : ℕ} 
       rw e (n, rw (n, has-length L) at (shifted l zs G p h))
 
   -- the places are opened behind a push, and the element is written there
-  inserted : (p x : ℕ) → p ≤ length l → Ready st ws hs slot (lenOf ws hs slot + 1) → LeavesWithSet (insertDone st ws hs slot p x) ls slot (insertAll p (x ∷ []) l)
+  inserted : (p x : ℕ) → p ≤ length l → Ready st ws hs slot (lenOf ws hs slot + 1)
+      → LeavesWithSet (insertDone st ws hs slot p x) ls slot (insertAll p (x ∷ []) l)
   unfolding insertDone openAt
   inserted p x h r =
       let ys = take 1 (drop p (l ++ x ∷ [])) in

@@ -57,7 +57,8 @@ module _ {st : ListPool} {ws hs : List ℕ} {xs : List Span} where
       }
 
   -- a held block goes to an empty slot
-  pub held-in : (slot b s : ℕ) → SoundBut st ws hs (span b s ∷ xs) → slot < length hs → handleAt hs slot ≡ 0 → 1 ≤ getD ws b 0 → sizeOf (classOf (getD ws b 0)) ≡ s
+  pub held-in : (slot b s : ℕ) → SoundBut st ws hs (span b s ∷ xs) → slot < length hs → handleAt hs slot ≡ 0
+      → 1 ≤ getD ws b 0 → sizeOf (classOf (getD ws b 0)) ≡ s
       → SoundBut st ws (set hs slot (b + 1)) xs
   unfolding spanOver
   held-in slot b s H l e n q =

@@ -11,7 +11,8 @@ use lib.ListN.{length, getD, take, drop, List·getD-eq-default}
 use lib.Dec.{eqb}
 use Rattle.pool.specs.declared.ListPool.{ListPool}
 use Rattle.pool.specs.Numbers.{_orElse_, handleAt, lengthAt, given, entryNumber}
-use Rattle.pool.specs.Rules.{isEmpty, len, isValid, get, first, push, lenOf, done, refused, numberOf, doneOf, unless, called, atNumber, isEmptyDone, lenDone, isValidDone, getDone, pushDone, part}
+use Rattle.pool.specs.Rules.{isEmpty, len, isValid, get, first, push, lenOf, done, refused, numberOf, doneOf, unless, called}
+use Rattle.pool.specs.Rules.{atNumber, isEmptyDone, lenDone, isValidDone, getDone, pushDone, part}
 use Rattle.sound.specs.Sound.{listAt, SoundWith}
 use Rattle.sound.specs.Changes.{list-is, list-element, length-list, length-lists}
 use Rattle.sound.specs.Refusals.{entry-is, empty-is}

@@ -13,7 +13,9 @@ use lib.ListN.{length}
 use lib.Dec.{eqb, leb, ltb}
 use Rattle.pool.specs.declared.ListPool.{ListPool}
 use Rattle.pool.specs.Numbers.{_orElse_, handleAt, given, entryNumber, entryNumber₂, needsBlock, needNumber}
-use Rattle.pool.specs.Rules.{Call, fromSlice, isEmpty, len, isValid, get, first, setAt, deepClone, clear, take, push, extend, copyFrom, insert, remove, swapRemove, truncate, growAt, clearPool, lenOf, numberOf, atNumber, takeNumber, growNumber, fromSliceNumber, deepCloneNumber, growAtNumber, copyFromNumber, removeNumber, truncateNumber}
+use Rattle.pool.specs.Rules.{Call, fromSlice, isEmpty, len, isValid, get, first, setAt, deepClone, clear, take, push}
+use Rattle.pool.specs.Rules.{extend, copyFrom, insert, remove, swapRemove, truncate, growAt, clearPool, lenOf, numberOf, atNumber}
+use Rattle.pool.specs.Rules.{takeNumber, growNumber, fromSliceNumber, deepCloneNumber, growAtNumber, copyFromNumber, removeNumber, truncateNumber}
 use Rattle.pool.specs.Facts.{within-limits, else-none, else-assoc}
 use Rattle.sound.specs.Sound.{listAt, SoundWith}
 use Rattle.sound.specs.SoundBut.{handle-inside}
@@ -39,9 +41,9 @@ refusal (isValid slot) ls = given 2 (outside ls slot)
 refusal (get slot position) ls = given 2 (outside ls slot) orElse given 4 (leb (length (listAt ls slot)) position)
 refusal (first slot) ls = given 2 (outside ls slot) orElse given 4 (leb (length (listAt ls slot)) 0)
 refusal (setAt slot position x) ls = given 2 (outside ls slot) orElse given 4 (leb (length (listAt ls slot)) position)
-refusal (deepClone slot other) ls = given 2 (outside ls slot || outside ls other) orElse given 5 (not (empty ls other))
+refusal (deepClone slot to) ls = given 2 (outside ls slot || outside ls to) orElse given 5 (not (empty ls to))
 refusal (clear slot) ls = given 2 (outside ls slot)
-refusal (take slot other) ls = given 2 (outside ls slot || outside ls other) orElse given 5 (eqb slot other || not (empty ls other))
+refusal (take slot to) ls = given 2 (outside ls slot || outside ls to) orElse given 5 (eqb slot to || not (empty ls to))
 refusal (push slot x) ls = given 2 (outside ls slot)
 refusal (extend slot xs) ls = given 2 (outside ls slot)
 refusal (copyFrom slot source start end position) ls =
@@ -51,7 +53,7 @@ refusal (copyFrom slot source start end position) ls =
 refusal (insert slot position x) ls = given 2 (outside ls slot) orElse given 4 (ltb (length (listAt ls slot)) position)
 refusal (remove slot position) ls = given 2 (outside ls slot) orElse given 4 (leb (length (listAt ls slot)) position)
 refusal (swapRemove slot position) ls = given 2 (outside ls slot) orElse given 4 (leb (length (listAt ls slot)) position)
-refusal (truncate slot n) ls = given 2 (outside ls slot)
+refusal (truncate slot new) ls = given 2 (outside ls slot)
 refusal (growAt slot position count) ls = given 2 (outside ls slot) orElse given 4 (ltb (length (listAt ls slot)) position)
 refusal clearPool ls = 0
 
@@ -60,31 +62,31 @@ pub record Lengths : Type 0 where
   pub old : ℕ
   pub new : ℕ
 
-infix 3 _to_
-abbrev pub _to_ : ℕ → ℕ → Lengths
-a to b = record { old = a; new = b }
+infix 3 _becomes_
+abbrev pub _becomes_ : ℕ → ℕ → Lengths
+old becomes new = record { old = old; new = new }
 
--- What a call does to the length of a list, where the lists are ls. A call that makes no list longer or shorter has none to none.
+-- What a call does to the length of a list, where the lists are ls. Of a call that makes no list longer or shorter 0 becomes 0.
 unfoldable pub lengths : Call → List (List ℕ) → Lengths
-lengths (fromSlice slot xs) ls = 0 to length xs
-lengths (isEmpty slot) ls = 0 to 0
-lengths (len slot) ls = 0 to 0
-lengths (isValid slot) ls = 0 to 0
-lengths (get slot position) ls = 0 to 0
-lengths (first slot) ls = 0 to 0
-lengths (setAt slot position x) ls = 0 to 0
-lengths (deepClone slot other) ls = 0 to length (listAt ls slot)
-lengths (clear slot) ls = length (listAt ls slot) to 0
-lengths (take slot other) ls = 0 to 0
-lengths (push slot x) ls = length (listAt ls slot) to length (listAt ls slot) + 1
-lengths (extend slot xs) ls = length (listAt ls slot) to length (listAt ls slot) + length xs
-lengths (copyFrom slot source start end position) ls = length (listAt ls slot) to length (listAt ls slot) + (end - start)
-lengths (insert slot position x) ls = length (listAt ls slot) to length (listAt ls slot) + 1
-lengths (remove slot position) ls = length (listAt ls slot) to length (listAt ls slot) - 1
-lengths (swapRemove slot position) ls = length (listAt ls slot) to length (listAt ls slot) - 1
-lengths (truncate slot n) ls = length (listAt ls slot) to min (length (listAt ls slot)) n
-lengths (growAt slot position count) ls = length (listAt ls slot) to length (listAt ls slot) + count
-lengths clearPool ls = 0 to 0
+lengths (fromSlice slot xs) ls = 0 becomes length xs
+lengths (isEmpty slot) ls = 0 becomes 0
+lengths (len slot) ls = 0 becomes 0
+lengths (isValid slot) ls = 0 becomes 0
+lengths (get slot position) ls = 0 becomes 0
+lengths (first slot) ls = 0 becomes 0
+lengths (setAt slot position x) ls = 0 becomes 0
+lengths (deepClone slot to) ls = 0 becomes length (listAt ls slot)
+lengths (clear slot) ls = length (listAt ls slot) becomes 0
+lengths (take slot to) ls = 0 becomes 0
+lengths (push slot x) ls = length (listAt ls slot) becomes length (listAt ls slot) + 1
+lengths (extend slot xs) ls = length (listAt ls slot) becomes length (listAt ls slot) + length xs
+lengths (copyFrom slot source start end position) ls = length (listAt ls slot) becomes length (listAt ls slot) + (end - start)
+lengths (insert slot position x) ls = length (listAt ls slot) becomes length (listAt ls slot) + 1
+lengths (remove slot position) ls = length (listAt ls slot) becomes length (listAt ls slot) - 1
+lengths (swapRemove slot position) ls = length (listAt ls slot) becomes length (listAt ls slot) - 1
+lengths (truncate slot new) ls = length (listAt ls slot) becomes min (length (listAt ls slot)) new
+lengths (growAt slot position count) ls = length (listAt ls slot) becomes length (listAt ls slot) + count
+lengths clearPool ls = 0 becomes 0
 
 module _ {st : ListPool} {ws hs : List ℕ} {ls : List (List ℕ)} (P : SoundWith st ws hs ls) where
   -- of 1, 2 and 3 there is left 2
@@ -108,7 +110,9 @@ module _ {st : ListPool} {ws hs : List ℕ} {ls : List (List ℕ)} (P : SoundWit
 
   -- and two handles are equal just where they are one slot's, or both 0
   clash-is : (slot other : ℕ) → eqb (handleAt hs slot) (handleAt hs other) ≡ (eqb slot other || (empty ls slot && empty ls other))
-  clash-is slot other = rw (← (empty-is slot), ← (empty-is other)) (go (ℕ-discrete slot other) (eq-zero-or-pos (handleAt hs slot)) (eq-zero-or-pos (handleAt hs other)))
+  clash-is slot other =
+      rw (← (empty-is slot), ← (empty-is other))
+      (go (ℕ-discrete slot other) (eq-zero-or-pos (handleAt hs slot)) (eq-zero-or-pos (handleAt hs other)))
     where
       h : ℕ
       h = handleAt hs slot
@@ -122,11 +126,13 @@ module _ {st : ListPool} {ws hs : List ℕ} {ls : List (List ℕ)} (P : SoundWit
       go (no ne) (inl z) (inr q) = rw (ne-eqb slot other ne, ne-eqb h k (omega arith), ne-eqb k 0 (omega arith)) (sym (and-false (eqb h 0)))
       go (no ne) (inr p) (inl y) = rw (ne-eqb slot other ne, ne-eqb h k (omega arith), ne-eqb h 0 (omega arith))
       go (no ne) (inr p) (inr q) =
-          rw (ne-eqb slot other ne, ne-eqb h k (not-shared (P .sound) slot other ne (handle-inside hs slot p) (handle-inside hs other q) (omega arith)), ne-eqb h 0 (omega arith))
+          let apart = not-shared (P .sound) slot other ne (handle-inside hs slot p) (handle-inside hs other q) (omega arith) in
+          rw (ne-eqb slot other ne, ne-eqb h k apart, ne-eqb h 0 (omega arith))
 
   -- The number of a call is that which its arguments have on the plain lists, or else that of the block for the length that it gives a list.
   pub number-is : (call : Call) → numberOf call st ws hs ≡ (refusal call ls orElse needNumber st ws (lengths call ls .old) (lengths call ls .new))
-  unfolding numberOf refusal lengths needNumber needsBlock atNumber takeNumber growNumber fromSliceNumber deepCloneNumber growAtNumber copyFromNumber removeNumber truncateNumber
+  unfolding numberOf refusal lengths needNumber needsBlock atNumber takeNumber growNumber fromSliceNumber
+      deepCloneNumber growAtNumber copyFromNumber removeNumber truncateNumber
   number-is (fromSlice slot xs) = rw (entry-is slot, empty-is slot, else-assoc)
   number-is (isEmpty slot) = rw (entry-is slot, else-none)
   number-is (len slot) = rw (entry-is slot, else-none)
@@ -134,9 +140,9 @@ module _ {st : ListPool} {ws hs : List ℕ} {ls : List (List ℕ)} (P : SoundWit
   number-is (get slot position) = rw (entry-is slot, length-list P slot, else-none)
   number-is (first slot) = rw (entry-is slot, length-list P slot, else-none)
   number-is (setAt slot position x) = rw (entry-is slot, length-list P slot, else-none)
-  number-is (deepClone slot other) = rw (entry-is₂ slot other, empty-is other, length-list P slot, else-assoc)
+  number-is (deepClone slot to) = rw (entry-is₂ slot to, empty-is to, length-list P slot, else-assoc)
   number-is (clear slot) = rw (entry-is slot, else-none)
-  number-is (take slot other) = rw (entry-is₂ slot other, empty-is other, else-none)
+  number-is (take slot to) = rw (entry-is₂ slot to, empty-is to, else-none)
   number-is (push slot x) = rw (entry-is slot, length-list P slot)
   number-is (extend slot xs) = rw (entry-is slot, length-list P slot)
   number-is (copyFrom slot source start end position) =
@@ -144,6 +150,6 @@ module _ {st : ListPool} {ws hs : List ℕ} {ls : List (List ℕ)} (P : SoundWit
   number-is (insert slot position x) = rw (entry-is slot, length-list P slot, else-assoc)
   number-is (remove slot position) = rw (entry-is slot, length-list P slot)
   number-is (swapRemove slot position) = rw (entry-is slot, length-list P slot)
-  number-is (truncate slot n) = rw (entry-is slot, length-list P slot)
+  number-is (truncate slot new) = rw (entry-is slot, length-list P slot)
   number-is (growAt slot position count) = rw (entry-is slot, length-list P slot, else-assoc)
   number-is clearPool = clear-pool-zero st ws hs (P .within .pool-limit) (P .within .table-limit) ∙ sym (else-none 0)

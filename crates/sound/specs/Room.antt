@@ -13,7 +13,8 @@ use Rattle.sizes.specs.Class.{longest, classOf, sizeOf}
 use Rattle.sizes.specs.Laws.{size-least}
 use Rattle.pool.specs.declared.ListPool.{ListPool}
 use Rattle.pool.specs.Numbers.{_orElse_, headOf, soundHead, given, badHead, noRoom, roomNumber, needsBlock, needNumber}
-use Rattle.pool.specs.Rules.{Call, fromSlice, isEmpty, len, isValid, get, first, setAt, deepClone, clear, take, push, extend, copyFrom, insert, remove, swapRemove, truncate, growAt, clearPool, numberOf}
+use Rattle.pool.specs.Rules.{Call, fromSlice, isEmpty, len, isValid, get, first, setAt, deepClone, clear, take, push}
+use Rattle.pool.specs.Rules.{extend, copyFrom, insert, remove, swapRemove, truncate, growAt, clearPool, numberOf}
 use Rattle.sound.specs.Sound.{Chain, Cut, SoundWith}
 use Rattle.sound.specs.Refusals.{refusal, lengths, number-is}
 
@@ -61,7 +62,9 @@ module _ {st : ListPool} {ws hs : List ℕ} {fs : List (List ℕ)} (C : Cut st w
 
       back : NoRoom st ws fs n → (ltb longest n || (eqb (headOf st (classOf n)) 0 && ltb (length ws) (st .used + sizeOf (classOf n)))) ≡ true
       back (inl a) = rw (lt-ltb longest n a)
-      back (inr b) = rw (eq-eqb (headOf st (classOf n)) 0 (none .1 (b .0)), lt-ltb (length ws) (st .used + sizeOf (classOf n)) (omega (arith, b .1))) (or-true (ltb longest n))
+      back (inr b) =
+          rw (eq-eqb (headOf st (classOf n)) 0 (none .1 (b .0)), lt-ltb (length ws) (st .used + sizeOf (classOf n)) (omega (arith, b .1)))
+          (or-true (ltb longest n))
 
   -- 6 is out of the question
   room-number : (n : ℕ) → roomNumber st ws n ≡ given 7 (noRoom st ws n)
@@ -81,21 +84,21 @@ module _ {st : ListPool} {ws hs : List ℕ} {fs : List (List ℕ)} (C : Cut st w
       go true = inr refl
       go false = inl refl
 
-  -- And where a list of a elements gets b the number is 7 exactly where a block is needed and there is no room, and else 0.
-  pub need-7 : (a b : ℕ) → (needNumber st ws a b ≡ 7) ↔ ((needsBlock a b ≡ true) × NoRoom st ws fs b)
+  -- And where a list of the old length gets the new one the number is 7 exactly where a block is needed and there is no room, and else 0.
+  pub need-7 : (old new : ℕ) → (needNumber st ws old new ≡ 7) ↔ ((needsBlock old new ≡ true) × NoRoom st ws fs new)
   unfolding needNumber
-  need-7 a b = go (needsBlock a b)
+  need-7 old new = go (needsBlock old new)
     where
-      go : (t : Bool) → (cond t (roomNumber st ws b) 0 ≡ 7) ↔ ((t ≡ true) × NoRoom st ws fs b)
-      go true = (λ e. (refl, room-7 b .0 e), λ (e, r). room-7 b .1 r)
+      go : (t : Bool) → (cond t (roomNumber st ws new) 0 ≡ 7) ↔ ((t ≡ true) × NoRoom st ws fs new)
+      go true = (λ e. (refl, room-7 new .0 e), λ (e, r). room-7 new .1 r)
       go false = (λ e. absurd (omega arith), λ (e, r). absurd (false≢true e))
 
-  pub need-0-7 : (a b : ℕ) → (needNumber st ws a b ≡ 0) ⊎ (needNumber st ws a b ≡ 7)
+  pub need-0-7 : (old new : ℕ) → (needNumber st ws old new ≡ 0) ⊎ (needNumber st ws old new ≡ 7)
   unfolding needNumber
-  need-0-7 a b = go (needsBlock a b)
+  need-0-7 old new = go (needsBlock old new)
     where
-      go : (t : Bool) → (cond t (roomNumber st ws b) 0 ≡ 0) ⊎ (cond t (roomNumber st ws b) 0 ≡ 7)
-      go true = room-0-7 b
+      go : (t : Bool) → (cond t (roomNumber st ws new) 0 ≡ 0) ⊎ (cond t (roomNumber st ws new) 0 ≡ 7)
+      go true = room-0-7 new
       go false = inl refl
 
 -- THE NUMBERS OF A CALL
@@ -157,7 +160,7 @@ low-refusal (copyFrom slot source start end position) ls = low-else (low-2 _) (l
 low-refusal (insert slot position x) ls = low-else (low-2 _) (low-4 _)
 low-refusal (remove slot position) ls = low-else (low-2 _) (low-4 _)
 low-refusal (swapRemove slot position) ls = low-else (low-2 _) (low-4 _)
-low-refusal (truncate slot n) ls = low-2 _
+low-refusal (truncate slot new) ls = low-2 _
 low-refusal (growAt slot position count) ls = low-else (low-2 _) (low-4 _)
 low-refusal clearPool ls = low-none
 

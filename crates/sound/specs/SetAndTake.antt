@@ -22,7 +22,8 @@ use Rattle.sound.specs.Changes.{lists-set, lists-clear, holds, held, lis
 
 module _ {st : ListPool} {ws hs : List ℕ} {ls : List (List ℕ)} (P : SoundWith st ws hs ls) where
   -- "set one"
-  pub set-holds : (slot p x : ℕ) → numberOf (setAt slot p x) st ws hs ≡ 0 → LeavesWith (doneOf (setAt slot p x) st ws hs) (set ls slot (set (listAt ls slot) p x))
+  pub set-holds : (slot p x : ℕ) → numberOf (setAt slot p x) st ws hs ≡ 0
+      → LeavesWith (doneOf (setAt slot p x) st ws hs) (set ls slot (set (listAt ls slot) p x))
   unfolding numberOf doneOf setDone
   set-holds slot p x e =
       let (f, place) = at-facts (st .used) ws hs slot p e in
@@ -49,7 +50,8 @@ module _ {st : ListPool} {ws hs : List ℕ} {ls : List (List ℕ)} (P : SoundWit
       go false e before = absurd (omega arith)
 
   -- the block of one slot goes to another, which is empty
-  handed : (slot to : ℕ) → slot < length hs → to < length hs → (slot ≡ to → ⊥) → handleAt hs to ≡ 0 → SoundBut st ws (set (set hs to (handleAt hs slot)) slot 0) []
+  handed : (slot to : ℕ) → slot < length hs → to < length hs → (slot ≡ to → ⊥) → handleAt hs to ≡ 0
+      → SoundBut st ws (set (set hs to (handleAt hs slot)) slot 0) []
   handed slot to l k q z = go (eq-zero-or-pos (handleAt hs slot))
     where
       h : ℕ
@@ -66,7 +68,9 @@ module _ {st : ListPool} {ws hs : List ℕ} {ls : List (List ℕ)} (P : SoundWit
       go (inr p) =
           let back : h - 1 + 1 ≡ h = omega arith in
           let O = held-out slot (held P) l p in
-          let I = held-in to (h - 1) _ O (simp length-set k) (getD-set-other hs slot to 0 0 (λ e. q (sym e)) ∙ z) (handle-facts (st .used) ws h (held P .handles slot) p .some) refl in
+          let none = getD-set-other hs slot to 0 0 (λ e. q (sym e)) ∙ z in
+          let some = handle-facts (st .used) ws h (held P .handles slot) p .some in
+          let I = held-in to (h - 1) _ O (simp length-set k) none some refl in
           rw (back, set-comm hs slot to 0 h q) at I
 
   -- "move"
@@ -78,4 +82,5 @@ module _ {st : ListPool} {ws hs : List ℕ} {ls : List (List ℕ)} (P : SoundWit
       let h = handleAt hs slot in
       holds (handed slot to (f .inside) (g .inside) (eqb-false _ _ (t .0)) (eqb-true _ _ (not-false _ (t .1))))
       (lists-clear ws (set hs to h) slot
-      ∙ ap (λ (r : List (List ℕ)). set r slot []) (lists-set ws hs to h ∙ ap (λ (r : List (List ℕ)). set r to (listOf ws h)) (P .are) ∙ ap (set ls to) (sym (list-of P slot))))
+      ∙ ap (λ (r : List (List ℕ)). set r slot [])
+      (lists-set ws hs to h ∙ ap (λ (r : List (List ℕ)). set r to (listOf ws h)) (P .are) ∙ ap (set ls to) (sym (list-of P slot))))

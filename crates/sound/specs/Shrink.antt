@@ -23,10 +23,11 @@ use Rattle.sound.specs.Sequences.{removeAt, swapRemoveAt}
 use Rattle.sound.specs.SequenceLaws.{take-shift}
 
 -- a list gets no more elements than it has: the first of them are left
-fewer : {st : ListPool} {ws hs : List ℕ} {ls : List (List ℕ)} {slot : ℕ} {l : List ℕ} → SoundWithSet st ws hs ls slot l → (b : ℕ) → Ready st ws hs slot b → b ≤ length l
-    → LeavesWithSet (resized st ws hs slot (handleAt hs slot) (lenOf ws hs slot) b) ls slot (take b l)
+fewer : {st : ListPool} {ws hs : List ℕ} {ls : List (List ℕ)} {slot : ℕ} {l : List ℕ}
+    → SoundWithSet st ws hs ls slot l → (new : ℕ) → Ready st ws hs slot new → new ≤ length l
+    → LeavesWithSet (resized st ws hs slot (handleAt hs slot) (lenOf ws hs slot) new) ls slot (take new l)
 unfolding resized
-fewer L b r h = ⊎-elim (λ z. rw z (emptied L)) (λ p. rw (ne-eqb b 0 (omega arith)) (shrunk L b r p h)) (eq-zero-or-pos b)
+fewer L new r h = ⊎-elim (λ z. rw z (emptied L)) (λ p. rw (ne-eqb new 0 (omega arith)) (shrunk L new r p h)) (eq-zero-or-pos new)
 
 -- the last element goes from a list whose elements may have been written since the entry, where the words were ws
 dropped : {st : ListPool} {vs hs : List ℕ} {ls : List (List ℕ)} {slot : ℕ} {l : List ℕ} → SoundWithSet st vs hs ls slot l → (ws : List ℕ)
@@ -82,20 +83,20 @@ module _ {st : ListPool} {ws hs : List ℕ} {ls : List (List ℕ)} (P : SoundWit
       rw (← last, ← (take-set-le (length l - 1) (set l p x) (length l - 1) y (omega arith)), n) (rw (long, n) at (D .holds))
 
   -- "take the first n"
-  pub truncate-holds : (slot n : ℕ) → numberOf (truncate slot n) st ws hs ≡ 0
-      → LeavesWith (doneOf (truncate slot n) st ws hs) (set ls slot (take n (listAt ls slot)))
+  pub truncate-holds : (slot new : ℕ) → numberOf (truncate slot new) st ws hs ≡ 0
+      → LeavesWith (doneOf (truncate slot new) st ws hs) (set ls slot (take new (listAt ls slot)))
   unfolding numberOf doneOf
-  truncate-holds slot n e = go (decLt n (lenOf ws hs slot)) .holds
+  truncate-holds slot new e = go (decLt new (lenOf ws hs slot)) .holds
     where
-      r : Ready st ws hs slot (min (lenOf ws hs slot) n)
-      r = truncate-facts st ws hs slot n e
+      r : Ready st ws hs slot (min (lenOf ws hs slot) new)
+      r = truncate-facts st ws hs slot new e
 
       L : SoundWithSet st ws hs ls slot (listAt ls slot)
       L = has slot P (r .inside)
 
-      go : Dec (n < lenOf ws hs slot) → LeavesWithSet (truncateDone st ws hs slot n) ls slot (take n (listAt ls slot))
+      go : Dec (new < lenOf ws hs slot) → LeavesWithSet (truncateDone st ws hs slot new) ls slot (take new (listAt ls slot))
       go (yes less) =
-          let m : min (lenOf ws hs slot) n ≡ n = omega arith in
-          rw (truncate-resized st ws hs slot n less) (fewer L n (rw m at r) (omega (arith, has-length L)))
+          let m : min (lenOf ws hs slot) new ≡ new = omega arith in
+          rw (truncate-resized st ws hs slot new less) (fewer L new (rw m at r) (omega (arith, has-length L)))
       go (no most) =
-          rw (truncate-none (length ws) st ws hs slot n (r .can .list) (omega arith), take-all n (listAt ls slot) (omega (arith, has-length L))) L
+          rw (truncate-none (length ws) st ws hs slot new (r .can .list) (omega arith), take-all new (listAt ls slot) (omega (arith, has-length L))) L

@@ -118,7 +118,8 @@ unfolding lengthAt
 length-some ws h p = rw (ne-eqb h 0 (omega arith))
 
 -- n words are the same from a on in ws as from b on in vs
-pub run-ext : (ws vs : List ℕ) (a b n : ℕ) → a + n ≤ length ws → b + n ≤ length vs → ((j : ℕ) → j < n → getD ws (a + j) 0 ≡ getD vs (b + j) 0) → take n (drop a ws) ≡ take n (drop b vs)
+pub run-ext : (ws vs : List ℕ) (a b n : ℕ) → a + n ≤ length ws → b + n ≤ length vs
+    → ((j : ℕ) → j < n → getD ws (a + j) 0 ≡ getD vs (b + j) 0) → take n (drop a ws) ≡ take n (drop b vs)
 run-ext ws vs a b n p q h =
     let e = length-take-drop ws a n p in
     ext-getD 0 (take n (drop a ws)) (take n (drop b vs)) (e ∙ sym (length-take-drop vs b n q))
@@ -169,7 +170,8 @@ module _ (ws vs : List ℕ) (h : ℕ) (same : (i : ℕ) → 1 ≤ liveOver ws i 
           (run-ext vs ws h h (getD ws (h - 1) 0) (omega arith) (omega arith) (λ j q. live-word p (h + j) (omega arith) (omega arith)))
 
 -- and of a chain's blocks
-pub chain-frame : (ws vs : List ℕ) (used used′ c h : ℕ) (bs : List ℕ) → used ≤ used′ → Chain used ws c h bs → ((i : ℕ) → 1 ≤ freeOver i c bs → getD vs i 0 ≡ getD ws i 0) → Chain used′ vs c h bs
+pub chain-frame : (ws vs : List ℕ) (used used′ c h : ℕ) (bs : List ℕ) → used ≤ used′ → Chain used ws c h bs
+    → ((i : ℕ) → 1 ≤ freeOver i c bs → getD vs i 0 ≡ getD ws i 0) → Chain used′ vs c h bs
 unfolding freeOver sum
 chain-frame ws vs used used′ c h [] l C same = C
 chain-frame ws vs used used′ c h (b ∷ bs) l C same =
@@ -214,7 +216,8 @@ module _ {st : ListPool} {ws hs : List ℕ} {xs : List Span} (H : SoundBut st ws
       go (no q) = absurd (omega (arith, ap (freeOver i c) (List·getD-eq-default (H .frees) [] {n = c} (omega arith))))
 
   -- THE FRAME: words that are the same in all used words outside of the held blocks
-  pub held-write : (vs : List ℕ) → length vs ≡ length ws → ((i : ℕ) → i < st .used → spanOver i xs ≡ 0 → getD vs i 0 ≡ getD ws i 0) → SoundBut st vs hs xs × (lists vs hs ≡ lists ws hs)
+  pub held-write : (vs : List ℕ) → length vs ≡ length ws
+      → ((i : ℕ) → i < st .used → spanOver i xs ≡ 0 → getD vs i 0 ≡ getD ws i 0) → SoundBut st vs hs xs × (lists vs hs ≡ lists ws hs)
   unfolding lists
   held-write vs l same = (
     record {
@@ -229,9 +232,12 @@ module _ {st : ListPool} {ws hs : List ℕ} {xs : List Span} (H : SoundBut st ws
           (λ i p. let o = own-chain c i p in same i (o .0) (o .1));
       spans = H .spans;
       once =
-          λ i. omega (arith, H .once i, sum-cong (λ slot h. liveOver vs i h) (λ slot h. liveOver ws i h) hs 0 (λ k p. live-frame ws vs (handleAt hs k) (word k) i));
+          λ i.
+          let same-live = sum-cong (λ slot h. liveOver vs i h) (λ slot h. liveOver ws i h) hs 0 (λ k p. live-frame ws vs (handleAt hs k) (word k) i) in
+          omega (arith, H .once i, same-live);
     },
-    map-ext (listOf vs) (listOf ws) hs (λ k p. list-frame ws vs (handleAt hs k) (word k) (st .used) (H .within .pool-limit) (H .within .below) l (H .handles k)),
+    map-ext (listOf vs) (listOf ws) hs
+        (λ k p. list-frame ws vs (handleAt hs k) (word k) (st .used) (H .within .pool-limit) (H .within .below) l (H .handles k)),
   )
     where
       word : (slot i : ℕ) → 1 ≤ liveOver ws i (handleAt hs slot) → getD vs i 0 ≡ getD ws i 0

@@ -84,8 +84,10 @@ module _ {st : ListPool} {ws hs : List ℕ} where
           let G = held-grow c H (can .fresh z) in
           let n = length-replicate (sizeOf c) MAX in
           let W = held-sets (st .used) (sizeOf c) (st .used) (replicate (sizeOf c) MAX) G (omega arith) (omega arith) in
-          rw (eq-eqb (headOf st c) 0 z)
-          (record { held = W .0; same = W .1; long = length-filled ws (st .used) (sizeOf c) MAX }, λ i l. getD-sets-below ws (st .used) (replicate (sizeOf c) MAX) i l)
+          rw (eq-eqb (headOf st c) 0 z) (
+            record { held = W .0; same = W .1; long = length-filled ws (st .used) (sizeOf c) MAX },
+            λ i l. getD-sets-below ws (st .used) (replicate (sizeOf c) MAX) i l,
+          )
 
   pub free-gave : {xs : List Span} (b c : ℕ) → SoundBut st ws hs (span b (sizeOf c) ∷ xs) → c < classCount → Gave ws hs (free st ws b c) b c xs
   unfolding free
@@ -109,7 +111,9 @@ module _ {st : ListPool} {ws hs : List ℕ} where
   pub realloc-took : {xs : List Span} (b from to n : ℕ) → SoundBut st ws hs (span b (sizeOf from) ∷ xs) → CanRealloc st (length ws) b from to n
       → Took ws hs (realloc st ws b from to n) to xs
       × ((j : ℕ) → j < n → getD (realloc st ws b from to n .words) (realloc st ws b from to n .block + j) 0 ≡ getD ws (b + j) 0)
-      × ((j : ℕ) → n ≤ j → j < sizeOf to → getD (realloc st ws b from to n .words) (realloc st ws b from to n .block + j) 0 ≡ getD (alloc st ws to .words) (alloc st ws to .block + j) 0)
+      × ((j : ℕ) → n ≤ j → j < sizeOf to
+      → getD (realloc st ws b from to n .words) (realloc st ws b from to n .block + j) 0
+      ≡ getD (alloc st ws to .words) (alloc st ws to .block + j) 0)
   unfolding realloc
   realloc-took {xs} b from to n H can = (
     record {
@@ -152,39 +156,39 @@ module _ {st : ListPool} {ws hs : List ℕ} where
           (held-apart (span (a .block) (sizeOf to)) (span b (sizeOf from)) (a .block + j) (W .0)
           (omega (arith, over-in (a .block) (sizeOf to) (a .block + j) (omega arith) (omega arith))))
 
--- the block of a list of a elements at the handle h, if it has one
+-- the block of a list of n elements at the handle h, if it has one
 abbrev pub own : ℕ → ℕ → List Span
-own h a = cond (eqb a 0) [] (span (h - 1) (sizeOf (classOf a)) ∷ [])
+own h n = cond (eqb n 0) [] (span (h - 1) (sizeOf (classOf n)) ∷ [])
 
--- a list of a elements at h got the block t for b, in which the elements that both have are those it had
-pub record Resized (ws hs : List ℕ) (h a b : ℕ) (t : Taken) : Type 0 where
-  pub took : Took ws hs t (classOf b) []
-  pub elements : take (min a b) (drop (t .block + 1) (t .words)) ≡ take (min a b) (drop h ws)
+-- the list of the old length at h got the block t for the new one, in which the elements that both have are those it had
+pub record Resized (ws hs : List ℕ) (h old new : ℕ) (t : Taken) : Type 0 where
+  pub took : Took ws hs t (classOf new) []
+  pub elements : take (min old new) (drop (t .block + 1) (t .words)) ≡ take (min old new) (drop h ws)
 
-pub moved-resized : {st : ListPool} {ws hs : List ℕ} (h a b : ℕ) → SoundBut st ws hs (own h a) → CanResize st (length ws) h a b → 0 < b
-    → Resized ws hs h a b (moved st ws h a b)
+pub moved-resized : {st : ListPool} {ws hs : List ℕ} (h old new : ℕ) → SoundBut st ws hs (own h old) → CanResize st (length ws) h old new → 0 < new
+    → Resized ws hs h old new (moved st ws h old new)
 unfolding moved
-moved-resized {st} {ws} {hs} h a b H can p = go (needsBlock a b) refl
+moved-resized {st} {ws} {hs} h old new H can p = go (needsBlock old new) refl
   where
-    whole : 0 < a → SoundBut st ws hs (span (h - 1) (sizeOf (classOf a)) ∷ [])
-    whole q = rw (ne-eqb a 0 (omega arith)) at H
+    whole : 0 < old → SoundBut st ws hs (span (h - 1) (sizeOf (classOf old)) ∷ [])
+    whole q = rw (ne-eqb old 0 (omega arith)) at H
 
-    needed : needsBlock a b ≡ true → (a ≡ 0) ⊎ (0 < a)
-        → Resized ws hs h a b (cond (eqb a 0) (alloc st ws (classOf b)) (realloc st ws (h - 1) (classOf a) (classOf b) (min a b + 1)))
+    needed : needsBlock old new ≡ true → (old ≡ 0) ⊎ (0 < old)
+        → Resized ws hs h old new (cond (eqb old 0) (alloc st ws (classOf new)) (realloc st ws (h - 1) (classOf old) (classOf new) (min old new + 1)))
     needed e (inl z) =
-        let none : min a b ≡ 0 = omega arith in
-        let empty : SoundBut st ws hs [] = rw (eq-eqb a 0 z) at H in
-        rw (eq-eqb a 0 z) (record { took = alloc-took (classOf b) empty (can .room e) .0; elements = rw none refl })
+        let none : min old new ≡ 0 = omega arith in
+        let empty : SoundBut st ws hs [] = rw (eq-eqb old 0 z) at H in
+        rw (eq-eqb old 0 z) (record { took = alloc-took (classOf new) empty (can .room e) .0; elements = rw none refl })
     needed e (inr q) =
         let list = can .list in
-        let r = realloc st ws (h - 1) (classOf a) (classOf b) (min a b + 1) in
-        let C = can-realloc st (length ws) h a b can q e in
-        let R = realloc-took (h - 1) (classOf a) (classOf b) (min a b + 1) (whole q) C in
-        rw (ne-eqb a 0 (omega arith))
+        let r = realloc st ws (h - 1) (classOf old) (classOf new) (min old new + 1) in
+        let C = can-realloc st (length ws) h old new can q e in
+        let R = realloc-took (h - 1) (classOf old) (classOf new) (min old new + 1) (whole q) C in
+        rw (ne-eqb old 0 (omega arith))
         (record {
           took = R .0;
           elements =
-              run-ext (r .words) ws (r .block + 1) h (min a b)
+              run-ext (r .words) ws (r .block + 1) h (min old new)
               (omega (arith, C .fits, R .0 .held .spans .1, R .0 .held .within .below)) (omega arith)
               (λ j l.
               ap (λ (k : ℕ). getD (r .words) k 0) (omega arith)
@@ -192,11 +196,13 @@ moved-resized {st} {ws} {hs} h a b H can p = go (needsBlock a b) refl
               ∙ ap (λ (k : ℕ). getD ws k 0) (omega (arith, list .some q)));
         })
 
-    go : (t : Bool) → needsBlock a b ≡ t
-        → Resized ws hs h a b (cond t (cond (eqb a 0) (alloc st ws (classOf b)) (realloc st ws (h - 1) (classOf a) (classOf b) (min a b + 1))) (record { block = h - 1; state = st; words = ws }))
-    go true e = needed e (eq-zero-or-pos a)
+    go : (t : Bool) → needsBlock old new ≡ t
+        → Resized ws hs h old new (cond t
+        (cond (eqb old 0) (alloc st ws (classOf new)) (realloc st ws (h - 1) (classOf old) (classOf new) (min old new + 1)))
+        (record { block = h - 1; state = st; words = ws }))
+    go true e = needed e (eq-zero-or-pos old)
     go false e =
-        let s = stays a b p e in
+        let s = stays old new p e in
         let back : h - 1 + 1 ≡ h = omega (arith, can .list .some (s .some)) in
         record {
           took = record { held = rw (s .class) at (whole (s .some)); same = refl; long = refl };

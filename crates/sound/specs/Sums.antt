@@ -59,7 +59,8 @@ over-add b s t i = go (decLt i b) (decLt i (b + s)) (decLt i (b + s + t))
     go : Dec (i < b) → Dec (i < b + s) → Dec (i < b + s + t) → over b (s + t) i ≡ over b s i + over (b + s) t i
     go (yes p) d e = omega (arith, over-left b (s + t) i p, over-left b s i p, over-left (b + s) t i (omega arith))
     go (no p) (yes q) e = omega (arith, over-in b (s + t) i (omega arith) (omega arith), over-in b s i (omega arith) q, over-left (b + s) t i q)
-    go (no p) (no q) (yes r) = omega (arith, over-in b (s + t) i (omega arith) (omega arith), over-right b s i (omega arith), over-in (b + s) t i (omega arith) r)
+    go (no p) (no q) (yes r) =
+        omega (arith, over-in b (s + t) i (omega arith) (omega arith), over-right b s i (omega arith), over-in (b + s) t i (omega arith) r)
     go (no p) (no q) (no r) = omega (arith, over-right b (s + t) i (omega arith), over-right b s i (omega arith), over-right (b + s) t i (omega arith))
 
 -- A sum along a list: with one element set, at least each element, and at least two different ones together
@@ -99,6 +100,7 @@ unfolding sum
 sum-pos f [] d h = absurd (not-suc-le-zero h)
 sum-pos f (x ∷ xs) d h = go (λ p. sum-pos (λ k. f (suc k)) xs d p) (decLt 0 (f 0 x))
   where
-    go : (1 ≤ sum (λ k. f (suc k)) xs → (k : ℕ) × (k < length xs) × (1 ≤ f (suc k) (getD xs k d))) → Dec (0 < f 0 x) → (k : ℕ) × (k < suc (length xs)) × (1 ≤ f k (getD (x ∷ xs) k d))
+    go : (1 ≤ sum (λ k. f (suc k)) xs → (k : ℕ) × (k < length xs) × (1 ≤ f (suc k) (getD xs k d)))
+        → Dec (0 < f 0 x) → (k : ℕ) × (k < suc (length xs)) × (1 ≤ f k (getD (x ∷ xs) k d))
     go rec (yes p) = (0, omega arith, p)
     go rec (no q) = let r = rec (omega arith) in (suc (r .0), omega (arith, r .1), r .2)

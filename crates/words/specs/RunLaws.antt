@@ -31,7 +31,9 @@ getD-sets-above ws at (x ∷ xs) k h = getD-sets-above (set ws at x) (suc at) xs
 pub getD-sets-within : (ws : List ℕ) (at : ℕ) (xs : List ℕ) (i : ℕ) → i < length xs → at + i < length ws → getD (sets ws at xs) (at + i) 0 ≡ getD xs i 0
 getD-sets-within ws at [] i h g = omega arith
 getD-sets-within ws at (x ∷ xs) zero h g = rw add-zero (getD-sets-below (set ws at x) (suc at) xs at (omega arith) ∙ getD-set-same ws at x 0 (omega arith))
-getD-sets-within ws at (x ∷ xs) (suc i) h g = rw (add-suc, ← suc-add) (getD-sets-within (set ws at x) (suc at) xs i (omega arith) (simp length-set (omega arith)))
+getD-sets-within ws at (x ∷ xs) (suc i) h g =
+    rw (add-suc, ← suc-add)
+    (getD-sets-within (set ws at x) (suc at) xs i (omega arith) (simp length-set (omega arith)))
 
 -- a run that is read: its length and its words
 pub length-take-drop : (ws : List ℕ) (from n : ℕ) → from + n ≤ length ws → length (take n (drop from ws)) ≡ n
@@ -45,7 +47,8 @@ pub getD-filled-within : (ws : List ℕ) (at n v i : ℕ) → i < n → at + n �
 unfolding filled
 getD-filled-within ws at n v i h g = getD-sets-within ws at (replicate n v) i (simp length-replicate h) (omega arith) ∙ getD-replicate n i v 0 h
 
-pub getD-copied-within : (ws : List ℕ) (from to n i : ℕ) → i < n → from + n ≤ length ws → to + n ≤ length ws → getD (copied ws from to n) (to + i) 0 ≡ getD ws (from + i) 0
+pub getD-copied-within : (ws : List ℕ) (from to n i : ℕ) → i < n → from + n ≤ length ws → to + n ≤ length ws
+    → getD (copied ws from to n) (to + i) 0 ≡ getD ws (from + i) 0
 unfolding copied
 getD-copied-within ws from to n i h f t = getD-sets-within ws to (take n (drop from ws)) i (rw length-take-drop h) (omega arith) ∙ getD-take-drop ws from n i h
 
@@ -60,13 +63,17 @@ set-sets-below ws at [] k v h = refl
 set-sets-below ws at (x ∷ xs) k v h = rw (set-comm ws k at v x (omega arith)) (set-sets-below (set ws at x) (suc at) xs k v (omega arith))
 
 -- one word more of xs, which is stored lowest word first, and highest word first
-pub set-sets-take : (ws : List ℕ) (at : ℕ) (xs : List ℕ) (i : ℕ) → i < length xs → set (sets ws at (take i xs)) (at + i) (getD xs i 0) ≡ sets ws at (take (i + 1) xs)
+pub set-sets-take : (ws : List ℕ) (at : ℕ) (xs : List ℕ) (i : ℕ) → i < length xs
+    → set (sets ws at (take i xs)) (at + i) (getD xs i 0) ≡ sets ws at (take (i + 1) xs)
 set-sets-take ws at xs i h = rw (add-one, take-suc xs i 0 h, sets-append, length-take-le i xs (omega arith))
 
-pub set-sets-drop : (ws : List ℕ) (at : ℕ) (xs : List ℕ) (i : ℕ) → i < length xs → set (sets ws (at + (i + 1)) (drop (i + 1) xs)) (at + i) (getD xs i 0) ≡ sets ws (at + i) (drop i xs)
+pub set-sets-drop : (ws : List ℕ) (at : ℕ) (xs : List ℕ) (i : ℕ) → i < length xs
+    → set (sets ws (at + (i + 1)) (drop (i + 1) xs)) (at + i) (getD xs i 0) ≡ sets ws (at + i) (drop i xs)
 set-sets-drop ws at xs i h = rw (add-one, drop-cons xs i 0 h, add-suc) (set-sets-below ws (suc (at + i)) (drop (suc i) xs) (at + i) (getD xs i 0) (omega arith))
 
 -- a run over every word
 pub filled-whole : (ws : List ℕ) (v : ℕ) → filled ws 0 (length ws) v ≡ replicate (length ws) v
 unfolding filled
-filled-whole ws v = sets-eq (replicate (length ws) v) ws 0 (rw length-replicate (omega arith)) ∙ rw (length-replicate, drop-of-length-le ws {i = 0 + length ws} (omega arith), append-nil)
+filled-whole ws v =
+    sets-eq (replicate (length ws) v) ws 0 (rw length-replicate (omega arith))
+    ∙ rw (length-replicate, drop-of-length-le ws {i = 0 + length ws} (omega arith), append-nil)

@@ -1,11 +1,11 @@
-// Runs of words in a slice that the caller lends: one is filled, shifted, copied or stored.
+// Runs of words in a slice that the caller lends, filled, shifted, copied and stored.
 // The loops are plain because the compiler then moves eight words a turn, however close the two runs lie.
 ghost use Prim.Native.Nat.{_+_, _≤_};
 ghost use Rattle.words.specs.Runs.{copied, filled, stored};
 ghost use lib.ListN.{length};
 ghost use mathlib.Core.Path.{_≡_};
 
-// `n` words from `at` on become `v`.
+// Sets `n` words from `at` on to `v`.
 pub fn fill(s: &mut [u32], at: usize, n: usize, v: u32)
     requires { ⌜ at + n ≤ length (now s) ⌝ }
     ensures { λ r. ⌜ now (s .exit) ≡ filled (now (s .entry)) at n v ⌝ }
@@ -17,7 +17,7 @@ pub fn fill(s: &mut [u32], at: usize, n: usize, v: u32)
     }
 }
 
-// `n` words from `from` on are moved up to `to` on, the highest first.
+// Moves `n` words from `from` on up to `to` on, the highest first.
 pub fn shift_up(s: &mut [u32], from: usize, to: usize, n: usize)
     requires { ⌜ (from ≤ to) × (to + n ≤ length (now s)) ⌝ }
     ensures { λ r. ⌜ now (s .exit) ≡ copied (now (s .entry)) from to n ⌝ }
@@ -29,7 +29,7 @@ pub fn shift_up(s: &mut [u32], from: usize, to: usize, n: usize)
     }
 }
 
-// `n` words from `from` on are moved down to `to` on, the lowest first.
+// Moves `n` words from `from` on down to `to` on, the lowest first.
 pub fn shift_down(s: &mut [u32], from: usize, to: usize, n: usize)
     requires { ⌜ (to ≤ from) × (from + n ≤ length (now s)) ⌝ }
     ensures { λ r. ⌜ now (s .exit) ≡ copied (now (s .entry)) from to n ⌝ }
@@ -41,7 +41,7 @@ pub fn shift_down(s: &mut [u32], from: usize, to: usize, n: usize)
     }
 }
 
-// `n` words from `from` on are copied to `to` on, all read before any is written.
+// Copies `n` words from `from` on to `to` on, as if all were read before any is written.
 pub fn copy(s: &mut [u32], from: usize, to: usize, n: usize)
     requires { ⌜ (from + n ≤ length (now s)) × (to + n ≤ length (now s)) ⌝ }
     ensures { λ r. ⌜ now (s .exit) ≡ copied (now (s .entry)) from to n ⌝ }
@@ -53,7 +53,7 @@ pub fn copy(s: &mut [u32], from: usize, to: usize, n: usize)
     }
 }
 
-// The words of `t` are stored from `at` on.
+// Stores the words of `t` from `at` on.
 pub fn store(s: &mut [u32], at: usize, t: &[u32])
     requires { ⌜ at + length (now t) ≤ length (now s) ⌝ }
     ensures { λ r. ⌜ now (s .exit) ≡ stored (now (s .entry)) at (now (t .entry)) ⌝ }

@@ -208,11 +208,11 @@ fn from_slice(draw: &Draw, world: &World) -> Call {
 }
 
 fn deep_clone(draw: &Draw, world: &World) -> Call {
-    Call::DeepClone { from: filled(draw.slot, world), to: empty(draw.other, world) }
+    Call::DeepClone { slot: filled(draw.slot, world), to: empty(draw.other, world) }
 }
 
 fn take(draw: &Draw, world: &World) -> Call {
-    Call::Take { from: filled(draw.slot, world), to: empty(draw.other, world) }
+    Call::Take { slot: filled(draw.slot, world), to: empty(draw.other, world) }
 }
 
 fn grow_at(draw: &Draw, world: &World) -> Call {
@@ -227,7 +227,7 @@ fn grow_at(draw: &Draw, world: &World) -> Call {
 
 fn copy_from(draw: &Draw, world: &World) -> Call {
     let source = filled(draw.other, world);
-    let target = wanted(draw.slot, world, |handle| Some(&handle) != world.handles.get(source));
+    let slot = wanted(draw.slot, world, |handle| Some(&handle) != world.handles.get(source));
     let length = world.rough_length(source);
     let start = position(draw.element as u16, length);
     let end = match draw.amount {
@@ -236,11 +236,11 @@ fn copy_from(draw: &Draw, world: &World) -> Call {
         _ => position(draw.amount << 3, length),
     };
     Call::CopyFrom {
-        target,
+        slot,
         source,
         start,
         end,
-        position: position(draw.place, world.rough_length(target)),
+        position: position(draw.place, world.rough_length(slot)),
     }
 }
 

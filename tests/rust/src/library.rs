@@ -35,15 +35,15 @@ pub fn through_c(world: &mut World, call: &Call) -> Outcome {
             Call::Get { slot, position } => c!(maaliskur_get(slot, position)),
             Call::First { slot } => c!(maaliskur_first(slot)),
             Call::Set { slot, position, element } => c!(maaliskur_set(slot, position, element)),
-            Call::DeepClone { from, to } => c!(maaliskur_deep_clone(from, to)),
+            Call::DeepClone { slot, to } => c!(maaliskur_deep_clone(slot, to)),
             Call::Clear { slot } => c!(maaliskur_clear(slot)),
-            Call::Take { from, to } => c!(maaliskur_take(from, to)),
+            Call::Take { slot, to } => c!(maaliskur_take(slot, to)),
             Call::Push { slot, element } => c!(maaliskur_push(slot, element)),
             Call::Extend { slot, ref elements } => {
                 c!(maaliskur_extend(slot, elements.as_ptr(), elements.len()))
             }
-            Call::CopyFrom { target, source, start, end, position } => {
-                c!(maaliskur_copy_from(target, source, start, end, position))
+            Call::CopyFrom { slot, source, start, end, position } => {
+                c!(maaliskur_copy_from(slot, source, start, end, position))
             }
             Call::Insert { slot, position, element } => {
                 c!(maaliskur_insert(slot, position, element))
@@ -89,13 +89,13 @@ pub fn through_rust(world: &mut World, call: &Call) -> Outcome {
         Call::Get { slot, position } => lists.get(slot, position),
         Call::First { slot } => lists.first(slot),
         Call::Set { slot, position, element } => lists.set(slot, position, element).map(nothing),
-        Call::DeepClone { from, to } => lists.deep_clone(from, to).map(nothing),
+        Call::DeepClone { slot, to } => lists.deep_clone(slot, to).map(nothing),
         Call::Clear { slot } => lists.clear(slot).map(nothing),
-        Call::Take { from, to } => lists.take(from, to).map(nothing),
+        Call::Take { slot, to } => lists.take(slot, to).map(nothing),
         Call::Push { slot, element } => lists.push(slot, element).map(word),
         Call::Extend { slot, ref elements } => lists.extend(slot, elements).map(nothing),
-        Call::CopyFrom { target, source, start, end, position } => {
-            lists.copy_from(target, source, start..end, position).map(nothing)
+        Call::CopyFrom { slot, source, start, end, position } => {
+            lists.copy_from(slot, source, start..end, position).map(nothing)
         }
         Call::Insert { slot, position, element } => {
             lists.insert(slot, position, element).map(nothing)

@@ -109,8 +109,8 @@ fn slots(call: &Call) -> impl Iterator<Item = usize> {
         | Call::SwapRemove { slot, .. }
         | Call::Truncate { slot, .. }
         | Call::GrowAt { slot, .. } => (Some(slot), None),
-        Call::DeepClone { from, to } | Call::Take { from, to } => (Some(from), Some(to)),
-        Call::CopyFrom { target, source, .. } => (Some(target), Some(source)),
+        Call::DeepClone { slot, to } | Call::Take { slot, to } => (Some(slot), Some(to)),
+        Call::CopyFrom { slot, source, .. } => (Some(slot), Some(source)),
         Call::ClearPool | Call::Audit { .. } => (None, None),
     };
     one.into_iter().chain(two)
@@ -140,8 +140,8 @@ fn outside(world: &World, call: &Call) -> bool {
             position > long(slot)
         }
         Call::First { slot } => long(slot) < 1,
-        Call::CopyFrom { target, source, start, end, position } => {
-            position > long(target) || start > end || end > long(source)
+        Call::CopyFrom { slot, source, start, end, position } => {
+            position > long(slot) || start > end || end > long(source)
         }
         _ => false,
     }
@@ -154,8 +154,8 @@ fn clash(world: &World, call: &Call) -> bool {
     match *call {
         Call::FromSlice { slot, .. } => world.handles[slot] != 0,
         Call::DeepClone { to, .. } => world.handles[to] != 0,
-        Call::Take { from, to } => from == to || world.handles[to] != 0,
-        Call::CopyFrom { target, source, .. } => world.handles[target] == world.handles[source],
+        Call::Take { slot, to } => slot == to || world.handles[to] != 0,
+        Call::CopyFrom { slot, source, .. } => world.handles[slot] == world.handles[source],
         _ => false,
     }
 }
@@ -165,13 +165,13 @@ fn lengths(world: &World, call: &Call) -> Option<(u128, u128)> {
     let long = |slot| u128::from(length(world, slot));
     match *call {
         Call::FromSlice { ref elements, .. } => Some((0, elements.len() as u128)),
-        Call::DeepClone { from, .. } => Some((0, long(from))),
+        Call::DeepClone { slot, .. } => Some((0, long(slot))),
         Call::Push { slot, .. } | Call::Insert { slot, .. } => Some((long(slot), long(slot) + 1)),
         Call::Extend { slot, ref elements } => {
             Some((long(slot), long(slot) + elements.len() as u128))
         }
-        Call::CopyFrom { target, start, end, .. } => {
-            Some((long(target), long(target) + (end - start) as u128))
+        Call::CopyFrom { slot, start, end, .. } => {
+            Some((long(slot), long(slot) + (end - start) as u128))
         }
         Call::GrowAt { slot, count, .. } => Some((long(slot), long(slot) + count as u128)),
         Call::Remove { slot, .. } | Call::SwapRemove { slot, .. } => {
@@ -342,16 +342,10 @@ fn extend(world: &mut World, slot: usize, elements: &[u32]) {
 
 /// 6: "`copy_from` takes its source words after the shift, all read before any is written." Its
 /// source is the list that the source's handle named at entry.
-fn copy_from(
-    world: &mut World,
-    target: usize,
-    source: usize,
-    range: Range<usize>,
-    position: usize,
-) {
+fn copy_from(world: &mut World, slot: usize, source: usize, range: Range<usize>, position: usize) {
     let from = world.handles[source] as usize;
-    grow_at(world, target, position, range.len());
-    let to = world.handles[target] as usize + position;
+    grow_at(world, slot, position, range.len());
+    let to = world.handles[slot] as usize + position;
     copy(world, from + range.start..from + range.end, to);
 }
 
@@ -432,12 +426,12 @@ fn from_slice(world: &mut World, slot: usize, elements: &[u32]) {
 }
 
 /// 9: "(`deep_clone` reads all of them after the length is written and before the first is)".
-fn deep_clone(world: &mut World, from: usize, to: usize) {
-    let length = length(world, from);
+fn deep_clone(world: &mut World, slot: usize, to: usize) {
+    let length = length(world, slot);
     if length == 0 {
         return;
     }
-    let first = world.handles[from] as usize;
+    let first = world.handles[slot] as usize;
     let block = alloc(world, class(length));
     world.pool[block] = length;
     copy(world, first..first + length as usize, block + 1);
@@ -454,9 +448,9 @@ fn clear(world: &mut World, slot: usize) {
 }
 
 /// 9: "`take` moves the handle to the other slot and leaves 0."
-fn take(world: &mut World, from: usize, to: usize) {
-    world.handles[to] = world.handles[from];
-    world.handles[from] = 0;
+fn take(world: &mut World, slot: usize, to: usize) {
+    world.handles[to] = world.handles[slot];
+    world.handles[slot] = 0;
 }
 
 /// 9: "`get` and `first` give the element's word".
@@ -596,12 +590,12 @@ fn deed(world: &mut World, call: &Call) -> u32 {
         Call::AsSlice { .. } => unreachable!("as_slice carries no number"),
         Call::FromSlice { slot, ref elements } => from_slice(world, slot, elements),
         Call::Set { slot, position, element } => set(world, slot, position, element),
-        Call::DeepClone { from, to } => deep_clone(world, from, to),
+        Call::DeepClone { slot, to } => deep_clone(world, slot, to),
         Call::Clear { slot } => clear(world, slot),
-        Call::Take { from, to } => take(world, from, to),
+        Call::Take { slot, to } => take(world, slot, to),
         Call::Extend { slot, ref elements } => extend(world, slot, elements),
-        Call::CopyFrom { target, source, start, end, position } => {
-            copy_from(world, target, source, start..end, position)
+        Call::CopyFrom { slot, source, start, end, position } => {
+            copy_from(world, slot, source, start..end, position)
         }
         Call::Insert { slot, position, element } => insert(world, slot, position, element),
         Call::Remove { slot, position } => remove(world, slot, position),

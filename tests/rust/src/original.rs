@@ -126,15 +126,15 @@ impl Original {
                 *lists[slot].get_mut(position, pool).expect("the position is in the list") =
                     Word(element)
             }
-            Call::DeepClone { from, to } => lists[to] = lists[from].deep_clone(pool),
+            Call::DeepClone { slot, to } => lists[to] = lists[slot].deep_clone(pool),
             Call::Clear { slot } => lists[slot].clear(pool),
-            Call::Take { from, to } => lists[to] = lists[from].take(),
+            Call::Take { slot, to } => lists[to] = lists[slot].take(),
             Call::Extend { slot, ref elements } => {
                 lists[slot].extend(elements.iter().copied().map(Word), pool)
             }
-            Call::CopyFrom { target, source, start, end, position } => {
+            Call::CopyFrom { slot, source, start, end, position } => {
                 let source = lists[source];
-                lists[target].copy_from(&source, start..end, position, pool);
+                lists[slot].copy_from(&source, start..end, position, pool);
             }
             Call::Insert { slot, position, element } => {
                 lists[slot].insert(position, Word(element), pool)

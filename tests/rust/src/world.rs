@@ -104,14 +104,14 @@ pub enum Call {
         element: u32,
     },
     DeepClone {
-        from: usize,
+        slot: usize,
         to: usize,
     },
     Clear {
         slot: usize,
     },
     Take {
-        from: usize,
+        slot: usize,
         to: usize,
     },
     Push {
@@ -123,7 +123,7 @@ pub enum Call {
         elements: Vec<u32>,
     },
     CopyFrom {
-        target: usize,
+        slot: usize,
         source: usize,
         start: usize,
         end: usize,

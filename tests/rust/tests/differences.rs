@@ -84,15 +84,15 @@ fn row_02_a_slot_that_is_not_in_the_table() {
         Call::Get { slot: 1, position: 0 },
         Call::First { slot: 1 },
         Call::Set { slot: 1, position: 0, element: 1 },
-        Call::DeepClone { from: 0, to: 1 },
-        Call::DeepClone { from: 1, to: 0 },
+        Call::DeepClone { slot: 0, to: 1 },
+        Call::DeepClone { slot: 1, to: 0 },
         Call::Clear { slot: 1 },
-        Call::Take { from: 0, to: 1 },
-        Call::Take { from: 1, to: 0 },
+        Call::Take { slot: 0, to: 1 },
+        Call::Take { slot: 1, to: 0 },
         Call::Push { slot: 1, element: 1 },
         Call::Extend { slot: 1, elements: vec![] },
-        Call::CopyFrom { target: 0, source: 1, start: 0, end: 0, position: 0 },
-        Call::CopyFrom { target: 1, source: 0, start: 0, end: 0, position: 0 },
+        Call::CopyFrom { slot: 0, source: 1, start: 0, end: 0, position: 0 },
+        Call::CopyFrom { slot: 1, source: 0, start: 0, end: 0, position: 0 },
         Call::Insert { slot: 1, position: 0, element: 1 },
         Call::Remove { slot: 1, position: 0 },
         Call::SwapRemove { slot: 1, position: 0 },
@@ -228,23 +228,23 @@ fn row_14_deep_clone_and_take_over_a_list() {
         let (mut pool, mut lists) = original(&entry);
         lists[to] = lists[0].deep_clone(&mut pool);
         assert_eq!((lists[to].handle(), words(&pool).len()), (9, 12));
-        refused(&entry, Call::DeepClone { from: 0, to }, 5);
+        refused(&entry, Call::DeepClone { slot: 0, to }, 5);
 
         let (_, mut lists) = original(&entry);
         lists[to] = lists[0].take();
         assert_eq!(lists[to].handle(), 1);
-        refused(&entry, Call::Take { from: 0, to }, 5);
+        refused(&entry, Call::Take { slot: 0, to }, 5);
     }
 }
 
 #[test]
 fn row_15_copy_from_between_equal_handles() {
     let entry = world(&[1, 7, M, M], &[], &[1, 1, 0, 0]);
-    for (target, source, end) in [(0, 1, 1), (0, 0, 1), (2, 3, 0)] {
+    for (slot, source, end) in [(0, 1, 1), (0, 0, 1), (2, 3, 0)] {
         let (mut pool, mut lists) = original(&entry);
         let from = lists[source];
-        panics("cannot copy within one", || lists[target].copy_from(&from, 0..end, 0, &mut pool));
-        refused(&entry, Call::CopyFrom { target, source, start: 0, end, position: 0 }, 5);
+        panics("cannot copy within one", || lists[slot].copy_from(&from, 0..end, 0, &mut pool));
+        refused(&entry, Call::CopyFrom { slot, source, start: 0, end, position: 0 }, 5);
     }
 }
 
@@ -255,7 +255,7 @@ fn row_16_copy_from_a_range_behind_the_list() {
     let source = lists[0];
     lists[1].copy_from(&source, 3..6, 0, &mut pool);
     assert_eq!(elements(&lists[1], &pool), [4, M, M]);
-    refused(&entry, Call::CopyFrom { target: 1, source: 0, start: 3, end: 6, position: 0 }, 4);
+    refused(&entry, Call::CopyFrom { slot: 1, source: 0, start: 3, end: 6, position: 0 }, 4);
 }
 
 #[test]
@@ -347,7 +347,7 @@ fn row_23_the_order_of_refusals() {
     let (mut pool, mut lists) = original(&entry);
     let source = lists[1];
     panics("cannot copy within one", || lists[0].copy_from(&source, 0..9, 0, &mut pool));
-    refused(&entry, Call::CopyFrom { target: 0, source: 1, start: 0, end: 9, position: 0 }, 4);
+    refused(&entry, Call::CopyFrom { slot: 0, source: 1, start: 0, end: 9, position: 0 }, 4);
 }
 
 /// The source range has 1 place, which is not more than the list's 1 element, and lies far behind
@@ -359,7 +359,7 @@ fn row_24_a_call_that_fails_half_way() {
     let source = lists[1];
     panics("out of range", || lists[0].copy_from(&source, 100..101, 0, &mut pool));
     assert_eq!((lists[0].len(&pool), words(&pool) == entry.pool), (2, false));
-    refused(&entry, Call::CopyFrom { target: 0, source: 1, start: 100, end: 101, position: 0 }, 4);
+    refused(&entry, Call::CopyFrom { slot: 0, source: 1, start: 100, end: 101, position: 0 }, 4);
 }
 
 #[test]
@@ -462,7 +462,7 @@ fn row_30_a_stale_handle_is_cleared() {
 fn row_31_a_stale_handle_is_cloned() {
     let (mut pool, lists) = original(&stale());
     assert!(lists[0].deep_clone(&mut pool).is_empty());
-    refused(&stale(), Call::DeepClone { from: 0, to: 1 }, 3);
+    refused(&stale(), Call::DeepClone { slot: 0, to: 1 }, 3);
 }
 
 #[test]
@@ -479,7 +479,7 @@ fn row_33_a_clone_of_a_block_that_was_given_back() {
     let (mut pool, lists) = original(&given_back());
     let clone = lists[0].deep_clone(&mut pool);
     assert_eq!((clone.is_empty(), clone.len(&pool), pool.heads()), (false, 0, &[0_usize][..]));
-    refused(&given_back(), Call::DeepClone { from: 0, to: 1 }, 3);
+    refused(&given_back(), Call::DeepClone { slot: 0, to: 1 }, 3);
 }
 
 #[test]
@@ -527,7 +527,7 @@ fn row_38_copy_from_to_a_position_outside() {
     let (mut pool, mut lists) = original(&entry);
     let source = lists[1];
     panics("out of bounds of `self`", || lists[0].copy_from(&source, 0..1, 2, &mut pool));
-    refused(&entry, Call::CopyFrom { target: 0, source: 1, start: 0, end: 1, position: 2 }, 4);
+    refused(&entry, Call::CopyFrom { slot: 0, source: 1, start: 0, end: 1, position: 2 }, 4);
 }
 
 #[test]
@@ -537,7 +537,7 @@ fn row_39_copy_from_a_range_that_ends_before_it_starts() {
     let source = lists[0];
     let said = if DEBUG { "overflow" } else { "out of bounds of `other`" };
     panics(said, || lists[1].copy_from(&source, 1..0, 0, &mut pool));
-    refused(&seven(), Call::CopyFrom { target: 1, source: 0, start: 1, end: 0, position: 0 }, 4);
+    refused(&seven(), Call::CopyFrom { slot: 1, source: 0, start: 1, end: 0, position: 0 }, 4);
 }
 
 #[test]
@@ -634,7 +634,7 @@ fn row_46_copy_from_an_empty_range_behind_the_list() {
     let source = lists[1];
     lists[0].copy_from(&source, 2..2, 0, &mut pool);
     assert_eq!(words(&pool), entry.pool);
-    refused(&entry, Call::CopyFrom { target: 0, source: 1, start: 2, end: 2, position: 0 }, 4);
+    refused(&entry, Call::CopyFrom { slot: 0, source: 1, start: 2, end: 2, position: 0 }, 4);
 }
 
 /// Every row of the tables has its test here, and every test its row.

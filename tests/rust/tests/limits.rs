@@ -55,10 +55,10 @@ fn nothing_at_all() {
     done(&mut pair, Call::Truncate { slot: 0, length: 0 });
     done(&mut pair, Call::Truncate { slot: 0, length: usize::MAX });
     done(&mut pair, Call::Clear { slot: 0 });
-    done(&mut pair, Call::DeepClone { from: 0, to: 1 });
-    done(&mut pair, Call::Take { from: 0, to: 1 });
+    done(&mut pair, Call::DeepClone { slot: 0, to: 1 });
+    done(&mut pair, Call::Take { slot: 0, to: 1 });
     done(&mut pair, Call::ClearPool);
-    refused(&mut pair, Call::CopyFrom { target: 0, source: 1, start: 0, end: 0, position: 0 }, 5);
+    refused(&mut pair, Call::CopyFrom { slot: 0, source: 1, start: 0, end: 0, position: 0 }, 5);
     refused(&mut pair, Call::Push { slot: 0, element: 1 }, 7);
     refused(&mut pair, Call::First { slot: 0 }, 4);
 }
@@ -67,8 +67,8 @@ fn nothing_at_all() {
 fn copying_nothing_into_an_empty_list() {
     let mut pair = pair(4);
     done(&mut pair, Call::Push { slot: 0, element: 1 });
-    done(&mut pair, Call::CopyFrom { target: 1, source: 0, start: 1, end: 1, position: 0 });
-    done(&mut pair, Call::CopyFrom { target: 0, source: 1, start: 0, end: 0, position: 1 });
+    done(&mut pair, Call::CopyFrom { slot: 1, source: 0, start: 1, end: 1, position: 0 });
+    done(&mut pair, Call::CopyFrom { slot: 0, source: 1, start: 0, end: 0, position: 1 });
     assert_eq!(pair.world().handles, [1, 0, 0]);
 }
 
@@ -89,7 +89,7 @@ fn every_size_exactly_and_one_short() {
                 } else {
                     done(&mut pair, making);
                     refused(&mut pair, Call::Push { slot: 0, element: 1 }, 7);
-                    refused(&mut pair, Call::DeepClone { from: 0, to: 1 }, 7);
+                    refused(&mut pair, Call::DeepClone { slot: 0, to: 1 }, 7);
                     done(&mut pair, Call::Get { slot: 0, position: size - 2 });
                     refused(&mut pair, Call::Get { slot: 0, position: size - 1 }, 4);
                     done(&mut pair, Call::Clear { slot: 0 });
@@ -161,12 +161,12 @@ fn from_any_length_to_any_other_near_a_boundary() {
                 if to < from {
                     done(&mut pair, Call::Truncate { slot: 0, length: to });
                 } else {
-                    done(&mut pair, Call::DeepClone { from: 0, to: 2 });
+                    done(&mut pair, Call::DeepClone { slot: 0, to: 2 });
                     done(&mut pair, Call::Extend { slot: 0, elements: elements(to - from) });
                     done(
                         &mut pair,
                         Call::CopyFrom {
-                            target: 2,
+                            slot: 2,
                             source: 1,
                             start: 0,
                             end: to - from,
@@ -191,7 +191,7 @@ fn every_small_range_to_every_place() {
                     for position in 0..=target {
                         done(
                             &mut made,
-                            Call::CopyFrom { target: 0, source: 1, start, end, position },
+                            Call::CopyFrom { slot: 0, source: 1, start, end, position },
                         );
                         done(&mut made, Call::Truncate { slot: 0, length: target });
                     }
@@ -199,17 +199,17 @@ fn every_small_range_to_every_place() {
             }
             refused(
                 &mut made,
-                Call::CopyFrom { target: 0, source: 1, start: 0, end: source + 1, position: 0 },
+                Call::CopyFrom { slot: 0, source: 1, start: 0, end: source + 1, position: 0 },
                 4,
             );
             refused(
                 &mut made,
-                Call::CopyFrom { target: 0, source: 1, start: 1, end: 0, position: 0 },
+                Call::CopyFrom { slot: 0, source: 1, start: 1, end: 0, position: 0 },
                 4,
             );
             refused(
                 &mut made,
-                Call::CopyFrom { target: 0, source: 1, start: 0, end: 0, position: target + 1 },
+                Call::CopyFrom { slot: 0, source: 1, start: 0, end: 0, position: target + 1 },
                 4,
             );
         }

@@ -2,7 +2,7 @@
 //! read, by the library and by the model.
 //!
 //! A name begins with the number of the point in docs/DECISIONS.md, "How paper 01 is read". Those
-//! without a number are at the end: classes and sizes beyond the limits, the audit, `grow_at`.
+//! without a number are cases of the paper itself, and of "Class and size beyond the limits" there.
 
 use beside::fixed::{done, heads, list, refused, world, M};
 use beside::model;
@@ -22,18 +22,18 @@ fn no_sound_head(world: World) -> World {
 fn reading_01_every_slot_argument_is_a_named_handle() {
     let unsound = world(&[], &[], &[0, 1]);
     refused(&unsound, Call::FromSlice { slot: 1, elements: vec![] }, 3);
-    refused(&unsound, Call::DeepClone { from: 0, to: 1 }, 3);
-    refused(&unsound, Call::DeepClone { from: 1, to: 0 }, 3);
-    refused(&unsound, Call::Take { from: 0, to: 1 }, 3);
-    refused(&unsound, Call::Take { from: 1, to: 1 }, 3);
-    refused(&unsound, Call::CopyFrom { target: 1, source: 0, start: 0, end: 0, position: 0 }, 3);
-    refused(&unsound, Call::CopyFrom { target: 0, source: 1, start: 0, end: 0, position: 0 }, 3);
+    refused(&unsound, Call::DeepClone { slot: 0, to: 1 }, 3);
+    refused(&unsound, Call::DeepClone { slot: 1, to: 0 }, 3);
+    refused(&unsound, Call::Take { slot: 0, to: 1 }, 3);
+    refused(&unsound, Call::Take { slot: 1, to: 1 }, 3);
+    refused(&unsound, Call::CopyFrom { slot: 1, source: 0, start: 0, end: 0, position: 0 }, 3);
+    refused(&unsound, Call::CopyFrom { slot: 0, source: 1, start: 0, end: 0, position: 0 }, 3);
 }
 
 #[test]
 fn reading_01_non_empty_is_a_handle_that_is_not_0() {
-    refused(&one_list(), Call::Take { from: 1, to: 0 }, 5);
-    let taken = done(&one_list(), Call::Take { from: 0, to: 1 }, 0);
+    refused(&one_list(), Call::Take { slot: 1, to: 0 }, 5);
+    let taken = done(&one_list(), Call::Take { slot: 0, to: 1 }, 0);
     assert_eq!(taken.handles, [0, 1]);
 }
 
@@ -41,22 +41,22 @@ fn reading_01_non_empty_is_a_handle_that_is_not_0() {
 fn reading_02_a_clash_is_judged_whatever_else_the_call_would_do() {
     refused(&one_list(), Call::FromSlice { slot: 0, elements: vec![] }, 5);
     refused(&one_list(), Call::FromSlice { slot: 0, elements: vec![1; 65_536] }, 5);
-    refused(&one_list(), Call::DeepClone { from: 1, to: 0 }, 5);
-    refused(&one_list(), Call::DeepClone { from: 0, to: 0 }, 5);
-    refused(&no_sound_head(one_list()), Call::DeepClone { from: 0, to: 0 }, 5);
-    assert_eq!(done(&one_list(), Call::DeepClone { from: 1, to: 1 }, 0), one_list());
+    refused(&one_list(), Call::DeepClone { slot: 1, to: 0 }, 5);
+    refused(&one_list(), Call::DeepClone { slot: 0, to: 0 }, 5);
+    refused(&no_sound_head(one_list()), Call::DeepClone { slot: 0, to: 0 }, 5);
+    assert_eq!(done(&one_list(), Call::DeepClone { slot: 1, to: 1 }, 0), one_list());
 }
 
 #[test]
 fn reading_02_take_into_the_same_slot_clashes_even_where_it_is_empty() {
-    refused(&one_list(), Call::Take { from: 1, to: 1 }, 5);
-    refused(&one_list(), Call::Take { from: 0, to: 0 }, 5);
+    refused(&one_list(), Call::Take { slot: 1, to: 1 }, 5);
+    refused(&one_list(), Call::Take { slot: 0, to: 0 }, 5);
 }
 
 #[test]
 fn reading_03_copy_from_judges_4_before_5() {
     let copy =
-        |target, source, end, position| Call::CopyFrom { target, source, start: 0, end, position };
+        |slot, source, end, position| Call::CopyFrom { slot, source, start: 0, end, position };
     refused(&one_list(), copy(0, 0, 2, 0), 4);
     refused(&one_list(), copy(0, 0, 1, 2), 4);
     refused(&one_list(), copy(0, 0, 1, 0), 5);
@@ -68,7 +68,7 @@ fn reading_03_copy_from_judges_4_before_5() {
 
 #[test]
 fn reading_03_copy_from_judges_4_before_5_for_two_empty_lists_too() {
-    let copy = |end, position| Call::CopyFrom { target: 0, source: 1, start: 0, end, position };
+    let copy = |end, position| Call::CopyFrom { slot: 0, source: 1, start: 0, end, position };
     let empty = world(&[], &[], &[0, 0]);
     refused(&empty, copy(1, 0), 4);
     refused(&empty, copy(0, 1), 4);
@@ -87,8 +87,8 @@ fn reading_04_no_head_is_looked_at_where_nothing_is_allocated() {
         Call::Truncate { slot: 1, length: 0 },
         Call::Clear { slot: 1 },
         Call::FromSlice { slot: 1, elements: vec![] },
-        Call::DeepClone { from: 1, to: 1 },
-        Call::CopyFrom { target: 1, source: 0, start: 1, end: 1, position: 0 },
+        Call::DeepClone { slot: 1, to: 1 },
+        Call::CopyFrom { slot: 1, source: 0, start: 1, end: 1, position: 0 },
     ];
     for call in same {
         assert_eq!(done(&entry, call, 0), entry);
@@ -111,7 +111,7 @@ fn reading_04_a_head_is_looked_at_where_a_block_is_allocated() {
     let entry = no_sound_head(one_list());
     refused(&entry, Call::Push { slot: 1, element: 8 }, 6);
     refused(&entry, Call::Extend { slot: 0, elements: vec![1, 2, 3] }, 6);
-    refused(&entry, Call::DeepClone { from: 0, to: 1 }, 6);
+    refused(&entry, Call::DeepClone { slot: 0, to: 1 }, 6);
 
     let four = no_sound_head(world(&[4, 1, 2, 3, 4, M, M, M], &[], &[1]));
     refused(&four, Call::Remove { slot: 0, position: 3 }, 6);
@@ -173,7 +173,7 @@ fn reading_07_the_size_of_a_stored_length_does_not_wrap() {
 }
 
 #[test]
-fn reading_07_a_block_need_not_be_aligned_to_its_size() {
+fn a_block_need_not_be_aligned_to_its_size() {
     let entry = world(&[1, 7, M, M, 4, 1, 2, 3, 4, M, M, M], &[], &[1, 5]);
     assert_eq!(done(&entry, Call::Len { slot: 1 }, 4), entry);
     assert_eq!(done(&entry, Call::Audit { map_words: 3 }, 0).map[..3], [1, 2, 0]);
@@ -190,7 +190,7 @@ fn reading_08_calls_without_something_to_return_give_0() {
         Call::Truncate { slot: 0, length: 1 },
         Call::Extend { slot: 0, elements: vec![9] },
         Call::GrowAt { slot: 0, position: 0, count: 1 },
-        Call::Take { from: 0, to: 1 },
+        Call::Take { slot: 0, to: 1 },
         Call::Clear { slot: 0 },
         Call::ClearPool,
         Call::Audit { map_words: 1 },
@@ -202,14 +202,14 @@ fn reading_08_calls_without_something_to_return_give_0() {
 }
 
 #[test]
-fn reading_08_truncate_is_never_4() {
+fn truncate_is_never_4() {
     for length in [0, 1, 1 << 32, usize::MAX] {
         assert_eq!(done(&one_list(), Call::Truncate { slot: 1, length }, 0), one_list());
     }
 }
 
 #[test]
-fn reading_08_positions_counts_and_slots_are_of_any_size() {
+fn positions_counts_and_slots_are_of_any_size() {
     let wide = 1 << 32;
     refused(&one_list(), Call::Len { slot: wide }, 2);
     refused(&one_list(), Call::Get { slot: 0, position: wide }, 4);
@@ -292,7 +292,7 @@ fn reading_10_push_frees_the_old_block_before_it_writes_the_element() {
 #[test]
 fn reading_10_copy_from_reads_its_source_after_the_move_and_the_shift() {
     let entry = world(&[0, 0, M, M, 3, 7, 8, 9, 3, 31, 32, 33], &[(1, 1)], &[9, 5]);
-    let copy = Call::CopyFrom { target: 0, source: 1, start: 0, end: 2, position: 0 };
+    let copy = Call::CopyFrom { slot: 0, source: 1, start: 0, end: 2, position: 0 };
     let after = done(&entry, copy, 0);
     assert_eq!(after.pool, [5, 33, 8, 31, 32, 33, 8, 9, 0, 0, 32, 33]);
     assert_eq!((after.heads, after.handles), (heads(&[(0, 9)]), vec![1, 5]));
@@ -302,7 +302,7 @@ fn reading_10_copy_from_reads_its_source_after_the_move_and_the_shift() {
 #[test]
 fn reading_10_deep_clone_reads_after_its_length_is_written() {
     let entry = world(&[4, 7, 8, 9, 0, 0, M, M, M, M, M, M], &[(1, 5)], &[1, 0]);
-    let after = done(&entry, Call::DeepClone { from: 0, to: 1 }, 0);
+    let after = done(&entry, Call::DeepClone { slot: 0, to: 1 }, 0);
     assert_eq!(after.pool, [4, 7, 8, 9, 4, 7, 8, 9, 4, M, M, M]);
     assert_eq!((after.heads, after.handles), (heads(&[]), vec![1, 5]));
 }

@@ -28,8 +28,8 @@ returns c =
     let st = stateOf (a .used) (a .heads .now) in
     let made = c .before .before .alloc .ensures in
     record {
-      is = rw (c .before .before .before .before .before .before .before .before .pre .1, eq-eqb (a .a) 0 (c .before .before .before .before .before .if1 .taken), ← c .before .before .before .before .before .before .for-length .ensures .is) (made .is);
-      ends = omega (arith, made .ends, ap sizeOf (c .before .before .before .before .before .before .for-length .ensures .is), block-fits st _ (a .h) (a .a) (a .b) (c .before .before .before .before .before .before .before .before .pre .0));
+      is = rw (c .before .before .before .before .before .before .before .before .pre .1, eq-eqb (a .old) 0 (c .before .before .before .before .before .if1 .taken), ← c .before .before .before .before .before .before .for-length .ensures .is) (made .is);
+      ends = omega (arith, made .ends, ap sizeOf (c .before .before .before .before .before .before .for-length .ensures .is), block-fits st _ (a .h) (a .old) (a .new) (c .before .before .before .before .before .before .before .before .pre .0));
     }
 
 for-length-requires-2 : tie.Need-for-length-requires-2
@@ -45,8 +45,8 @@ realloc-requires : tie.Need-realloc-requires
 realloc-requires c κs =
     let a = c .before .before .before .before .before .before .before .before .args in
     let st = stateOf (a .used) (a .heads .now) in
-    let least : c .before .before .before .if2 .n ≡ min (a .a) (a .b) = ⊎-elim (λ w. omega arith) (λ w. omega arith) (c .before .before .before .if2 .came) in
-    rw (c .before .before .before .before .before .before .for-length .ensures .is, c .before .before .before .before .for-length2 .ensures .is, least) (can-realloc st _ (a .h) (a .a) (a .b) (c .before .before .before .before .before .before .before .before .pre .0) (omega arith) (c .before .before .before .before .before .before .before .before .pre .1))
+    let least : c .before .before .before .if2 .n ≡ min (a .old) (a .new) = ⊎-elim (λ w. omega arith) (λ w. omega arith) (c .before .before .before .if2 .came) in
+    rw (c .before .before .before .before .before .before .for-length .ensures .is, c .before .before .before .before .for-length2 .ensures .is, least) (can-realloc st _ (a .h) (a .old) (a .new) (c .before .before .before .before .before .before .before .before .pre .0) (omega arith) (c .before .before .before .before .before .before .before .before .pre .1))
 
 same-length-2 : tie.Need-same-length-2
 same-length-2 c = search needs
@@ -57,10 +57,10 @@ returns-2 c =
     let a = c .before .before .before .before .before .before .before .before .before .before .before .args in
     let st = stateOf (a .used) (a .heads .now) in
     let made = c .before .before .realloc .ensures in
-    let least : c .before .before .before .before .before .before .if2 .n ≡ min (a .a) (a .b) = ⊎-elim (λ w. omega arith) (λ w. omega arith) (c .before .before .before .before .before .before .if2 .came) in
+    let least : c .before .before .before .before .before .before .if2 .n ≡ min (a .old) (a .new) = ⊎-elim (λ w. omega arith) (λ w. omega arith) (c .before .before .before .before .before .before .if2 .came) in
     record {
-      is = rw (c .before .before .before .before .before .before .before .before .before .before .before .pre .1, ne-eqb (a .a) 0 (c .before .before .before .before .before .before .before .before .if1 .left), ← c .before .before .before .before .before .before .before .before .before .for-length .ensures .is, ← c .before .before .before .before .before .before .before .for-length2 .ensures .is, ← least) (made .is);
-      ends = omega (arith, made .ends, ap sizeOf (c .before .before .before .before .before .before .before .before .before .for-length .ensures .is), block-fits st _ (a .h) (a .a) (a .b) (c .before .before .before .before .before .before .before .before .before .before .before .pre .0));
+      is = rw (c .before .before .before .before .before .before .before .before .before .before .before .pre .1, ne-eqb (a .old) 0 (c .before .before .before .before .before .before .before .before .if1 .left), ← c .before .before .before .before .before .before .before .before .before .for-length .ensures .is, ← c .before .before .before .before .before .before .before .for-length2 .ensures .is, ← least) (made .is);
+      ends = omega (arith, made .ends, ap sizeOf (c .before .before .before .before .before .before .before .before .before .for-length .ensures .is), block-fits st _ (a .h) (a .old) (a .new) (c .before .before .before .before .before .before .before .before .before .before .before .pre .0));
     }
 
 pub moved-spec : {M : Type 1} → statement M

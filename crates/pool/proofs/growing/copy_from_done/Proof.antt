@@ -29,8 +29,8 @@ slice-read-length-at c = search needs
 length-at-requires : tie.Need-length-at-requires
 length-at-requires c κs = search needs
 
-cast-len : tie.Need-cast-len
-cast-len c = search needs
+cast-old : tie.Need-cast-old
+cast-old c = search needs
 
 sub-count : tie.Need-sub-count
 sub-count c = search needs
@@ -86,7 +86,7 @@ copy-from-done-spec =
     mul-length-at
     slice-read-length-at
     length-at-requires
-    cast-len
+    cast-old
     sub-count
     grow-requires
     mul-at

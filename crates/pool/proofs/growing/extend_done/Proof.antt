@@ -17,8 +17,8 @@ slice-read-length-at c = search needs
 length-at-requires : tie.Need-length-at-requires
 length-at-requires c κs = search needs
 
-cast-len : tie.Need-cast-len
-cast-len c = search needs
+cast-old : tie.Need-cast-old
+cast-old c = search needs
 
 grow-requires : tie.Need-grow-requires
 grow-requires c κs = search needs
@@ -58,7 +58,7 @@ extend-done-spec =
     mul-length-at
     slice-read-length-at
     length-at-requires
-    cast-len
+    cast-old
     grow-requires
     mul-first
     slice-read-first

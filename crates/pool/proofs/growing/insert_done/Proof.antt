@@ -19,8 +19,8 @@ slice-read-length-at c = search needs
 length-at-requires : tie.Need-length-at-requires
 length-at-requires c κs = search needs
 
-cast-len : tie.Need-cast-len
-cast-len c = search needs
+cast-old : tie.Need-cast-old
+cast-old c = search needs
 
 push-done-requires : tie.Need-push-done-requires
 push-done-requires c κs = search needs
@@ -75,7 +75,7 @@ insert-done-spec =
     mul-length-at
     slice-read-length-at
     length-at-requires
-    cast-len
+    cast-old
     push-done-requires
     mul-at
     slice-read-at

@@ -23,11 +23,11 @@ slice-read-h c = search needs
 length-at-requires : tie.Need-length-at-requires
 length-at-requires c κs = search needs
 
-cast-n : tie.Need-cast-n
-cast-n c = search needs
+cast-new : tie.Need-cast-new
+cast-new c = search needs
 
-add-n : tie.Need-add-n
-add-n c = search needs
+add-new : tie.Need-add-new
+add-new c = search needs
 
 add-needs-block : tie.Need-add-needs-block
 add-needs-block c = search needs
@@ -41,8 +41,8 @@ cast-at c = search needs
 sub-at : tie.Need-sub-at
 sub-at c =
     let a = c .before .before .before .before .before .before .before .args in
-    let n = lenOf (a .pool .now) (a .handles .now) (a .slot) in
-    let e = stay-ends (a .t1) _ (handleAt (a .handles .now) (a .slot)) n (n + 1) (c .before .before .before .before .before .before .before .pre .can) {t = c .before .needs-block .result} (omega arith) (rw (← c .before .before .length-at .ensures) (c .before .needs-block .ensures)) (c .if1 .taken) in
+    let old = lenOf (a .pool .now) (a .handles .now) (a .slot) in
+    let e = stay-ends (a .t1) _ (handleAt (a .handles .now) (a .slot)) old (old + 1) (c .before .before .before .before .before .before .before .pre .can) {t = c .before .needs-block .result} (omega arith) (rw (← c .before .before .length-at .ensures) (c .before .needs-block .ensures)) (c .if1 .taken) in
     e .0
 
 add-pool : tie.Need-add-pool
@@ -54,8 +54,8 @@ mul-pool c = search needs
 slice-write-pool : tie.Need-slice-write-pool
 slice-write-pool c =
     let a = c .before .before .before .before .before .before .before .args in
-    let n = lenOf (a .pool .now) (a .handles .now) (a .slot) in
-    let e = stay-ends (a .t1) _ (handleAt (a .handles .now) (a .slot)) n (n + 1) (c .before .before .before .before .before .before .before .pre .can) {t = c .before .needs-block .result} (omega arith) (rw (← c .before .before .length-at .ensures) (c .before .needs-block .ensures)) (c .if1 .taken) in
+    let old = lenOf (a .pool .now) (a .handles .now) (a .slot) in
+    let e = stay-ends (a .t1) _ (handleAt (a .handles .now) (a .slot)) old (old + 1) (c .before .before .before .before .before .before .before .pre .can) {t = c .before .needs-block .result} (omega arith) (rw (← c .before .before .length-at .ensures) (c .before .needs-block .ensures)) (c .if1 .taken) in
     omega (arith, e .1, c .before .before .length-at .ensures)
 
 add-seat : tie.Need-add-seat
@@ -64,8 +64,8 @@ add-seat c = search needs
 seat-requires : tie.Need-seat-requires
 seat-requires c κs =
     let a = c .before .before .before .before .before .before .before .before .before .args in
-    let n = lenOf (a .pool .now) (a .handles .now) (a .slot) in
-    let e = stay-ends (a .t1) _ (handleAt (a .handles .now) (a .slot)) n (n + 1) (c .before .before .before .before .before .before .before .before .before .pre .can) {t = c .before .before .before .needs-block .result} (omega arith) (rw (← c .before .before .before .before .length-at .ensures) (c .before .before .before .needs-block .ensures)) (c .before .before .if1 .taken) in
+    let old = lenOf (a .pool .now) (a .handles .now) (a .slot) in
+    let e = stay-ends (a .t1) _ (handleAt (a .handles .now) (a .slot)) old (old + 1) (c .before .before .before .before .before .before .before .before .before .pre .can) {t = c .before .before .before .needs-block .result} (omega arith) (rw (← c .before .before .before .before .length-at .ensures) (c .before .before .before .needs-block .ensures)) (c .before .before .if1 .taken) in
     simp length-set (omega (arith, e .1, c .before .before .before .before .length-at .ensures), c .before .before .before .before .before .before .before .before .before .pre .can .limit, c .before .before .before .before .before .before .before .before .before .pre .inside)
 
 done-requires : tie.Need-done-requires
@@ -81,8 +81,8 @@ returns : tie.Need-returns
 unfolding blocks.moved
 returns c =
     let a = c .before .before .before .before .before .before .before .before .before .before .before .before .before .before .before .args in
-    let n = lenOf (a .pool .now) (a .handles .now) (a .slot) in
-    let e = stay-ends (a .t1) _ (handleAt (a .handles .now) (a .slot)) n (n + 1) (c .before .before .before .before .before .before .before .before .before .before .before .before .before .before .before .pre .can) {t = c .before .before .before .before .before .before .before .before .before .needs-block .result} (omega arith) (rw (← c .before .before .before .before .before .before .before .before .before .before .length-at .ensures) (c .before .before .before .before .before .before .before .before .before .needs-block .ensures)) (c .before .before .before .before .before .before .before .before .if1 .taken) in
+    let old = lenOf (a .pool .now) (a .handles .now) (a .slot) in
+    let e = stay-ends (a .t1) _ (handleAt (a .handles .now) (a .slot)) old (old + 1) (c .before .before .before .before .before .before .before .before .before .before .before .before .before .before .before .pre .can) {t = c .before .before .before .before .before .before .before .before .before .needs-block .result} (omega arith) (rw (← c .before .before .before .before .before .before .before .before .before .before .length-at .ensures) (c .before .before .before .before .before .before .before .before .before .needs-block .ensures)) (c .before .before .before .before .before .before .before .before .if1 .taken) in
     let stayed = sym (c .before .before .before .before .before .before .before .before .before .needs-block .ensures) ∙ not-true _ (c .before .before .before .before .before .before .before .before .if1 .taken) in
     push-meets _ (a .t1) (a .pool .now) (a .handles .now) (a .slot) (a .element) (c .before .before .before .before .before .before .before .before .before .before .length-at .result) (record { block = handleAt (a .handles .now) (a .slot) - 1; state = a .t1; words = a .pool .now }) (c .before .before .before .before .before .before .before .before .before .before .before .before .before .before .before .pre .inside) (c .before .before .before .before .before .before .before .before .before .before .length-at .ensures) (rw stayed refl) (omega (arith, e .1, c .before .before .before .before .before .before .before .before .before .before .length-at .ensures)) (c .done .ensures) (c .before .before .before .before .before .seat .ensures .0) (c .before .before .before .before .before .seat .ensures .1)
 
@@ -128,8 +128,8 @@ push-done-spec =
     mul-h
     slice-read-h
     length-at-requires
-    cast-n
-    add-n
+    cast-new
+    add-new
     add-needs-block
     needs-block-requires
     cast-at

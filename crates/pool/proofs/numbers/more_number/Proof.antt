@@ -11,7 +11,7 @@ cast-if1 : tie.Need-cast-if1
 cast-if1 c = search needs
 
 returns : tie.Need-returns
-returns c = let a = c .before .before .args in sym (need-over (stateOf (a .used) (a .heads .now)) (a .pool .now) (a .a) _ (omega arith))
+returns c = let a = c .before .before .args in sym (need-over (stateOf (a .used) (a .heads .now)) (a .pool .now) (a .old) _ (omega arith))
 
 cast-need-number : tie.Need-cast-need-number
 cast-need-number c = search needs

@@ -37,7 +37,7 @@ returns-2 c =
     let st = stateOf (a .used) (a .heads .now) in
     let f = entry-facts _ _ _ _ (sym (c .before .before .before .before .entry-number .ensures) ∙ c .before .before .before .if1 .left) in
     let len = lenOf (a .pool .now) (a .handles .now) (a .slot) in
-    let none = need-same st (a .pool .now) len (min len (a .n)) (f .list .short) (omega arith) in
+    let none = need-same st (a .pool .now) len (min len (a .new)) (f .list .short) (omega arith) in
     search (tests, ← c .before .before .before .before .entry-number .ensures, none)
 
 cast-need-number : tie.Need-cast-need-number
@@ -50,7 +50,7 @@ returns-3 : tie.Need-returns-3
 unfolding truncateNumber _orElse_
 returns-3 c =
     let a = c .before .before .before .before .before .before .before .before .args in
-    let least : min (c .before .before .length-at .result) (a .n) ≡ a .n = omega arith in
+    let least : min (c .before .before .length-at .result) (a .new) ≡ a .new = omega arith in
     search (tests, ← c .before .before .before .before .before .entry-number .ensures, ← c .before .before .length-at .ensures, least, ← c .need-number .ensures)
 
 pub truncate-number-spec : {M : Type 1} → statement M

@@ -29,7 +29,7 @@ same-length c = search needs
 returns : tie.Need-returns
 returns c =
     let a = c .before .before .before .before .before .before .before .args in
-    rw (c .done .ensures) (sym (truncate-none _ (a .state) (a .pool .now) (a .handles .now) (a .slot) (a .n) (c .before .before .before .before .before .before .before .pre .can .list) (rw (← c .before .before .length-at .ensures) (c .before .if1 .taken))))
+    rw (c .done .ensures) (sym (truncate-none _ (a .state) (a .pool .now) (a .handles .now) (a .slot) (a .new) (c .before .before .before .before .before .before .before .pre .can .list) (rw (← c .before .before .length-at .ensures) (c .before .if1 .taken))))
 
 cast-resize : tie.Need-cast-resize
 cast-resize c = search needs
@@ -38,7 +38,7 @@ resize-requires : tie.Need-resize-requires
 resize-requires c κs =
     let a = c .before .before .before .before .before .before .before .before .args in
     let p = c .before .before .before .before .before .before .before .before .pre in
-    let least : min (lenOf (a .pool .now) (a .handles .now) (a .slot)) (a .n) ≡ a .n = omega (arith, c .before .before .before .length-at .ensures) in
+    let least : min (lenOf (a .pool .now) (a .handles .now) (a .slot)) (a .new) ≡ a .new = omega (arith, c .before .before .before .length-at .ensures) in
     (rw (c .before .before .before .length-at .ensures) (rw least at (p .can)), (λ z. p .can .list .some (omega (arith, c .before .before .before .length-at .ensures))), p .inside)
 
 same-length-2 : tie.Need-same-length-2
@@ -50,7 +50,7 @@ same-length-3 c = search needs
 returns-2 : tie.Need-returns-2
 returns-2 c =
     let a = c .before .before .before .before .before .before .before .before .before .before .before .before .before .args in
-    rw (truncate-resized (a .state) (a .pool .now) (a .handles .now) (a .slot) (a .n) (omega (arith, c .before .before .before .before .before .before .before .before .length-at .ensures, c .before .before .before .before .before .before .before .if1 .left)), ← c .before .before .before .before .before .before .before .before .length-at .ensures) (c .before .before .before .before .resize .ensures .is)
+    rw (truncate-resized (a .state) (a .pool .now) (a .handles .now) (a .slot) (a .new) (omega (arith, c .before .before .before .before .before .before .before .before .length-at .ensures, c .before .before .before .before .before .before .before .if1 .left)), ← c .before .before .before .before .before .before .before .before .length-at .ensures) (c .before .before .before .before .resize .ensures .is)
 
 pub truncate-done-spec : {M : Type 1} → statement M
 truncate-done-spec =

@@ -17,11 +17,11 @@ slice-read-h c = search needs
 length-at-requires : tie.Need-length-at-requires
 length-at-requires c κs = search needs
 
-cast-n : tie.Need-cast-n
-cast-n c = search needs
+cast-new : tie.Need-cast-new
+cast-new c = search needs
 
-add-n : tie.Need-add-n
-add-n c = search needs
+add-new : tie.Need-add-new
+add-new c = search needs
 
 done-requires : tie.Need-done-requires
 done-requires c κs = search needs
@@ -63,8 +63,8 @@ grow-spec =
     mul-h
     slice-read-h
     length-at-requires
-    cast-n
-    add-n
+    cast-new
+    add-new
     done-requires
     same-length
     returns

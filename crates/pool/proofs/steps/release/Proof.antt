@@ -17,7 +17,7 @@ free-requires : tie.Need-free-requires
 free-requires c κs =
     let a = c .before .before .before .before .before .args in
     let p = c .before .before .before .before .before .pre in
-    rw (c .for-length .ensures .is) (can-free _ (a .h) (a .len) (p .0) (p .0 .live (p .1)) (p .2))
+    rw (c .for-length .ensures .is) (can-free _ (a .h) (a .n) (p .0) (p .0 .live (p .1)) (p .2))
 
 mul-handles : tie.Need-mul-handles
 mul-handles c = search needs

@@ -26,7 +26,7 @@ same-length-2 c = search needs
 returns : tie.Need-returns
 returns c =
     let a = c .before .before .before .before .before .before .before .before .before .before .before .before .args in
-    released-meets _ (a .t1) (a .pool .now) (a .handles .now) (a .slot) (a .h) (a .len) (a .n) (c .before .before .before .before .before .before .before .before .before .before .before .before .pre .2) (c .before .before .before .before .before .before .before .before .before .if1 .taken) (c .before .before .before .before .before .before .before .before .before .before .before .before .pre .1 (c .before .before .before .before .before .before .before .before .before .if1 .taken)) (rw (c .done .ensures) (c .before .before .before .before .before .release .ensures (a .t1 .used)))
+    released-meets _ (a .t1) (a .pool .now) (a .handles .now) (a .slot) (a .h) (a .old) (a .new) (c .before .before .before .before .before .before .before .before .before .before .before .before .pre .2) (c .before .before .before .before .before .before .before .before .before .if1 .taken) (c .before .before .before .before .before .before .before .before .before .before .before .before .pre .1 (c .before .before .before .before .before .before .before .before .before .if1 .taken)) (rw (c .done .ensures) (c .before .before .before .before .before .release .ensures (a .t1 .used)))
 
 needs-block-requires : tie.Need-needs-block-requires
 needs-block-requires c κs = search needs
@@ -34,13 +34,13 @@ needs-block-requires c κs = search needs
 sub-seat : tie.Need-sub-seat
 sub-seat c =
     let a = c .before .before .before .before .before .before .before .args in
-    let e = stay-ends (a .t1) _ (a .h) (a .len) (a .n) (c .before .before .before .before .before .before .before .pre .0) (omega (arith, c .before .before .before .before .if1 .left)) (c .before .before .before .needs-block .ensures) (c .before .before .if2 .taken) in
+    let e = stay-ends (a .t1) _ (a .h) (a .old) (a .new) (c .before .before .before .before .before .before .before .pre .0) (omega (arith, c .before .before .before .before .if1 .left)) (c .before .before .before .needs-block .ensures) (c .before .before .if2 .taken) in
     e .0
 
 seat-requires : tie.Need-seat-requires
 seat-requires c κs =
     let a = c .before .before .before .before .before .before .before .args in
-    let e = stay-ends (a .t1) _ (a .h) (a .len) (a .n) (c .before .before .before .before .before .before .before .pre .0) (omega (arith, c .before .before .before .before .if1 .left)) (c .before .before .before .needs-block .ensures) (c .before .before .if2 .taken) in
+    let e = stay-ends (a .t1) _ (a .h) (a .old) (a .new) (c .before .before .before .before .before .before .before .pre .0) (omega (arith, c .before .before .before .before .if1 .left)) (c .before .before .before .needs-block .ensures) (c .before .before .if2 .taken) in
     (omega (arith, e .1), c .before .before .before .before .before .before .before .pre .0 .limit, c .before .before .before .before .before .before .before .pre .2)
 
 done-requires-2 : tie.Need-done-requires-2
@@ -56,8 +56,8 @@ returns-2 : tie.Need-returns-2
 unfolding blocks.moved
 returns-2 c =
     let a = c .before .before .before .before .before .before .before .before .before .before .before .before .before .args in
-    let e = stay-ends (a .t1) _ (a .h) (a .len) (a .n) (c .before .before .before .before .before .before .before .before .before .before .before .before .before .pre .0) (omega (arith, c .before .before .before .before .before .before .before .before .before .before .if1 .left)) (c .before .before .before .before .before .before .before .before .before .needs-block .ensures) (c .before .before .before .before .before .before .before .before .if2 .taken) in
-    resized-meets _ (a .t1) (a .pool .now) (a .handles .now) (a .slot) (a .h) (a .len) (a .n) (record { block = a .h - 1; state = a .t1; words = a .pool .now }) (c .before .before .before .before .before .before .before .before .before .before .before .before .before .pre .2) (c .before .before .before .before .before .before .before .before .before .before .if1 .left) (rw (sym (c .before .before .before .before .before .before .before .before .before .needs-block .ensures) ∙ not-true _ (c .before .before .before .before .before .before .before .before .if2 .taken)) refl) (e .1) (c .done2 .ensures) (c .before .before .before .before .before .seat .ensures .0) (c .before .before .before .before .before .seat .ensures .1)
+    let e = stay-ends (a .t1) _ (a .h) (a .old) (a .new) (c .before .before .before .before .before .before .before .before .before .before .before .before .before .pre .0) (omega (arith, c .before .before .before .before .before .before .before .before .before .before .if1 .left)) (c .before .before .before .before .before .before .before .before .before .needs-block .ensures) (c .before .before .before .before .before .before .before .before .if2 .taken) in
+    resized-meets _ (a .t1) (a .pool .now) (a .handles .now) (a .slot) (a .h) (a .old) (a .new) (record { block = a .h - 1; state = a .t1; words = a .pool .now }) (c .before .before .before .before .before .before .before .before .before .before .before .before .before .pre .2) (c .before .before .before .before .before .before .before .before .before .before .if1 .left) (rw (sym (c .before .before .before .before .before .before .before .before .before .needs-block .ensures) ∙ not-true _ (c .before .before .before .before .before .before .before .before .if2 .taken)) refl) (e .1) (c .done2 .ensures) (c .before .before .before .before .before .seat .ensures .0) (c .before .before .before .before .before .seat .ensures .1)
 
 moved-requires : tie.Need-moved-requires
 moved-requires c κs = (c .before .before .before .before .before .before .before .pre .0, sym (c .before .before .before .needs-block .ensures) ∙ not-false _ (c .before .before .if2 .left))
@@ -77,7 +77,7 @@ same-length-6 c = search needs
 returns-3 : tie.Need-returns-3
 returns-3 c =
     let a = c .before .before .before .before .before .before .before .before .before .before .before .before .before .before .before .before .before .before .args in
-    resized-meets _ (a .t1) (a .pool .now) (a .handles .now) (a .slot) (a .h) (a .len) (a .n) (taken (c .before .before .before .before .before .before .before .before .before .before .moved .result) (c .before .before .before .before .before .before .before .before .before .before .moved .last .1 .0) (c .before .before .before .before .before .before .before .before .before .before .moved .last .1 .1 .0)) (c .before .before .before .before .before .before .before .before .before .before .before .before .before .before .before .before .before .before .pre .2) (c .before .before .before .before .before .before .before .before .before .before .before .before .before .before .before .if1 .left) (c .before .before .before .before .before .before .before .before .before .before .moved .ensures .is) (c .before .before .before .before .before .before .before .before .before .before .moved .ensures .ends) (c .done3 .ensures) (c .before .before .before .before .before .seat2 .ensures .0) (c .before .before .before .before .before .seat2 .ensures .1)
+    resized-meets _ (a .t1) (a .pool .now) (a .handles .now) (a .slot) (a .h) (a .old) (a .new) (taken (c .before .before .before .before .before .before .before .before .before .before .moved .result) (c .before .before .before .before .before .before .before .before .before .before .moved .last .1 .0) (c .before .before .before .before .before .before .before .before .before .before .moved .last .1 .1 .0)) (c .before .before .before .before .before .before .before .before .before .before .before .before .before .before .before .before .before .before .pre .2) (c .before .before .before .before .before .before .before .before .before .before .before .before .before .before .before .if1 .left) (c .before .before .before .before .before .before .before .before .before .before .moved .ensures .is) (c .before .before .before .before .before .before .before .before .before .before .moved .ensures .ends) (c .done3 .ensures) (c .before .before .before .before .before .seat2 .ensures .0) (c .before .before .before .before .before .seat2 .ensures .1)
 
 pub resize-spec : {M : Type 1} → statement M
 resize-spec =
