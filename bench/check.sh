@@ -7,10 +7,10 @@
 # The prover saves each module as it finishes it. The time between two of these files is taken as the later one's.
 # POSIX sh with find's -printf; needs rt on the path, and awk and sort.
 set -u
-
-die() { printf 'bench/check.sh: %s\n' "$*" >&2; exit 2; }
-
-cd "$(dirname "$0")/.." || die "cannot enter the repository"
+cd "$(dirname "$0")/.." || exit 2
+. tests/scripts/shared.sh
+script bench/check.sh "$@"
+for name; do grep -q "^$name:" crates.txt || unknown "$name"; done
 command -v rt >/dev/null || die "no rt on the path: the Rattle kit's command, which proves and builds"
 
 # Proves one crate from nothing; what it uses is proved before. Gives the lines "SECONDS MODULE", in the order of the run.

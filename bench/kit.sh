@@ -1,12 +1,7 @@
 # How this machine runs a program of the repository: as rt does, under the kit's loader and C library. To be read in by a script that has
 # a function `die`. Sets tools, loader and emulator, which is empty where none is needed, and gives `run_program`.
-rt=$(command -v rt) || die "no rt on the path: the Rattle kit's command, which proves and builds"
-while [ -L "$rt" ]; do
-    link=$(readlink "$rt")
-    case $link in /*) rt=$link ;; *) rt=$(dirname "$rt")/$link ;; esac
-done
-home=${RATTLE_HOME:-$(cd "$(dirname "$rt")/.." && pwd -P)}
-tools=$home/on/$(uname -m)/toolchain
+command -v rt >/dev/null || die "no rt on the path: the Rattle kit's command, which proves and builds"
+tools=$(dirname "$(rt doc)")/../on/$(uname -m)/toolchain
 loader=$tools/lib/ld-linux-x86-64.so.2
 [ -f "$loader" ] || die "the kit of this rt has no loader for its programs"
 # programs are for x86-64; on another processor the kit has an emulator beside its compiler

@@ -2,7 +2,7 @@
 //!
 //! Every answer comes from the original, `docs/src/src/list.rs`, compiled as it stands: nothing here computes what a call leaves. A call is tried on a
 //! copy of the pool first, and is left out where paper 01 refuses it: a position or range outside the list (4), slots that clash (5), or more words
-//! than the lent pool has (7). The list's format is in `docs/ANSWERS-LIST.md`. The same seed gives the same list on every machine.
+//! than the lent pool has (7). The list's format is in `docs/RUST-ANSWERS.md`. The same seed gives the same list on every machine.
 
 extern crate alloc;
 pub extern crate core as __core;

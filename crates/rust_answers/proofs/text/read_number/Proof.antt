@@ -1,10 +1,10 @@
--- `replay::text::read_number` meets its contract. The place never falls, and the value fits 32 bits. The measure is what is left of the text.
+-- `rust_answers::text::read_number` meets its contract. The place never falls, and the value fits 32 bits. The measure is what is left of the text.
 -- Assumes nothing.
 use borrow.Author.Needs.{needs}
 use Prim.Native.Nat.{_≤_, _-_}
 use lib.ListN.{length}
-use Rattle.replay.proofs.text.read_number.Statement.{statement}
-use Rattle.replay.proofs.text.read_number.Tie as tie
+use Rattle.rust_answers.proofs.text.read_number.Statement.{statement}
+use Rattle.rust_answers.proofs.text.read_number.Tie as tie
 
 abbrev Inv-loop : tie.InvT-loop
 Inv-loop text at value₀ i₀ value i = (at ≤ i) × (value ≤ 4294967295)

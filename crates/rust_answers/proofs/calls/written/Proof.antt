@@ -1,12 +1,12 @@
--- `replay::calls::written` is safe and ends. The index stays within the part, which keeps its length. The measure is what is left of it.
+-- `rust_answers::calls::written` is safe and ends. The index stays within the part, which keeps its length. The measure is what is left of it.
 -- Assumes nothing.
 use borrow.Author.Needs.{needs}
 use native.Mathlib.Omega.{arith}
 use Prim.Native.Nat.{_≤_, _-_}
 use lib.ListN.{length, length-set}
 use mathlib.Core.Path.{_≡_}
-use Rattle.replay.proofs.calls.written.Statement.{statement}
-use Rattle.replay.proofs.calls.written.Tie as tie
+use Rattle.rust_answers.proofs.calls.written.Statement.{statement}
+use Rattle.rust_answers.proofs.calls.written.Tie as tie
 
 abbrev Inv-loop : tie.InvT-loop
 Inv-loop part₀ elements i₀ part i = (i ≤ length part₀) × (length part ≡ length part₀)

@@ -1,4 +1,4 @@
--- `replay::text::read_line` meets its contract. The place never falls, and the numbers stay within their slice, which keeps its length. The measure is
+-- `rust_answers::text::read_line` meets its contract. The place never falls, and the numbers stay within their slice, which keeps its length. The measure is
 -- the room that is left for numbers.
 -- Assumes nothing.
 use borrow.Author.Needs.{needs}
@@ -6,8 +6,8 @@ use native.Mathlib.Omega.{arith}
 use Prim.Native.Nat.{_≤_, _-_}
 use lib.ListN.{length, length-set}
 use mathlib.Core.Path.{_≡_}
-use Rattle.replay.proofs.text.read_line.Statement.{statement}
-use Rattle.replay.proofs.text.read_line.Tie as tie
+use Rattle.rust_answers.proofs.text.read_line.Statement.{statement}
+use Rattle.rust_answers.proofs.text.read_line.Tie as tie
 
 abbrev Inv-loop : tie.InvT-loop
 Inv-loop text start numbers₀ at₀ n₀ numbers at n = (start ≤ at) × (n ≤ length numbers₀) × (length numbers ≡ length numbers₀)

@@ -1,11 +1,11 @@
--- `replay::replay` is safe and ends. There are no more lines than bytes, and the lent slices keep their lengths. The measure is what is left of the text.
+-- `rust_answers::replay` is safe and ends. There are no more lines than bytes, and the lent slices keep their lengths. The measure is what is left of the text.
 -- Assumes nothing.
 use borrow.Author.Needs.{needs}
 use Prim.Native.Nat.{_≤_, _-_}
 use lib.ListN.{length}
 use mathlib.Core.Path.{_≡_}
-use Rattle.replay.proofs.replay.Statement.{statement}
-use Rattle.replay.proofs.replay.Tie as tie
+use Rattle.rust_answers.proofs.replay.Statement.{statement}
+use Rattle.rust_answers.proofs.replay.Tie as tie
 
 abbrev Inv-loop : tie.InvT-loop
 Inv-loop text pool₀ handles₀ cells₀ bench₀ at₀ lines₀ pool handles cells bench at lines = (lines ≤ at) × (length pool ≡ length pool₀) × (length handles ≡ length handles₀) × (length cells ≡ length cells₀)

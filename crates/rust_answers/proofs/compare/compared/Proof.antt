@@ -1,10 +1,10 @@
--- `replay::compare::compared` is safe and ends. The index stays within our words. The measure is what is left of them.
+-- `rust_answers::compare::compared` is safe and ends. The index stays within our words. The measure is what is left of them.
 -- Assumes nothing.
 use borrow.Author.Needs.{needs}
 use Prim.Native.Nat.{_≤_, _-_}
 use lib.ListN.{length}
-use Rattle.replay.proofs.compare.compared.Statement.{statement}
-use Rattle.replay.proofs.compare.compared.Tie as tie
+use Rattle.rust_answers.proofs.compare.compared.Statement.{statement}
+use Rattle.rust_answers.proofs.compare.compared.Tie as tie
 
 abbrev Inv-loop : tie.InvT-loop
 Inv-loop what ours rust i₀ i = i ≤ length ours

@@ -1,11 +1,11 @@
--- `replay::compare::changed` is safe and ends. The index stays within the changes, and the cells keep their length. The measure is what is left of the changes.
+-- `rust_answers::compare::changed` is safe and ends. The index stays within the changes, and the cells keep their length. The measure is what is left of the changes.
 -- Assumes nothing.
 use borrow.Author.Needs.{needs}
 use Prim.Native.Nat.{_≤_, _-_}
 use lib.ListN.{length}
 use mathlib.Core.Path.{_≡_}
-use Rattle.replay.proofs.compare.changed.Statement.{statement}
-use Rattle.replay.proofs.compare.changed.Tie as tie
+use Rattle.rust_answers.proofs.compare.changed.Statement.{statement}
+use Rattle.rust_answers.proofs.compare.changed.Tie as tie
 
 abbrev Inv-loop : tie.InvT-loop
 Inv-loop changes cells₀ i₀ cells i = (i ≤ length changes) × (length cells ≡ length cells₀)

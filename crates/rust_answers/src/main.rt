@@ -1,6 +1,6 @@
 // Replays the fixed list of the Rust's answers, which standard input has: each line's call is made on the library, and what comes back and what it
 // leaves are compared with what the Rust gave and left. It says how many calls were as the Rust, or where and how the first one was not.
-// The list's format is in docs/ANSWERS-LIST.md.
+// The list's format is in docs/RUST-ANSWERS.md.
 ghost use Prim.Native.Nat.{_<_};
 ghost use lib.ListN.{length};
 use libc::STDIN_FILENO;

@@ -1,10 +1,10 @@
--- `replay::calls::alike` is safe and ends. The index stays within the list, and the two are as long. The measure is what is left of the list.
+-- `rust_answers::calls::alike` is safe and ends. The index stays within the list, and the two are as long. The measure is what is left of the list.
 -- Assumes nothing.
 use borrow.Author.Needs.{needs}
 use Prim.Native.Nat.{_≤_, _-_}
 use lib.ListN.{length}
-use Rattle.replay.proofs.calls.alike.Statement.{statement}
-use Rattle.replay.proofs.calls.alike.Tie as tie
+use Rattle.rust_answers.proofs.calls.alike.Statement.{statement}
+use Rattle.rust_answers.proofs.calls.alike.Tie as tie
 
 abbrev Inv-loop : tie.InvT-loop
 Inv-loop ours rust i₀ i = i ≤ length ours
