@@ -2,9 +2,10 @@
 //! that build.rs makes.
 
 use crate::inputs::POOL;
-use crate::{list, shifting, Word};
+use crate::shifting;
 use maaliskur::sys::{self, State};
 use maaliskur::Lists;
+use original::{list, Word};
 
 /// A pool and a table of lists, and `push`. A call that is refused ends the program.
 pub trait Pushes {
