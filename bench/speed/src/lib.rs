@@ -5,6 +5,7 @@
 //! - [`forms`]: `push` written by hand in several forms, to tell what of its time comes from where.
 //! - [`inputs`]: numbers from a fixed seed, and the calls made of them.
 //! - [`cases`]: the calls of each case, the same for each side.
+//! - [`audits`]: the audit of full pools, beside a plain pass over the same words.
 
 // What list.rs names by these paths, for the copy of it.
 extern crate alloc;
@@ -12,6 +13,7 @@ extern crate alloc;
 pub extern crate core as __core;
 pub use original::{packed_option, EntityRef};
 
+pub mod audits;
 pub mod cases;
 pub mod forms;
 pub mod inputs;
