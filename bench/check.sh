@@ -3,6 +3,7 @@
 #
 #   bench/check.sh            every crate of crates.txt, one after the other
 #   bench/check.sh NAME..     the crates named: their kinds of module, and the functions that take longest
+#   bench/check.sh --help     this
 #
 # The prover saves each module as it finishes it. The time between two of these files is taken as the later one's.
 # POSIX sh with find's -printf; needs rt on the path, and awk and sort.
@@ -12,6 +13,7 @@ cd "$(dirname "$0")/.." || exit 2
 script bench/check.sh "$@"
 for name; do grep -q "^$name:" crates.txt || unknown "$name"; done
 command -v rt >/dev/null || die "no rt on the path: the Rattle kit's command, which proves and builds"
+mkdir -p target || die "cannot make target"
 
 # Proves one crate from nothing; what it uses is proved before. Gives the lines "SECONDS MODULE", in the order of the run.
 modules() { # NAME
@@ -39,7 +41,7 @@ longest() {
 }
 
 printf '%-12s %7s %7s %7s %7s %7s %8s\n' seconds all walk proofs specs other modules
-for name in ${*:-$(sed -n 's/^\([a-z_0-9]*\):.*/\1/p' crates.txt)}; do
+for name in ${*:-$crates}; do
     rt check "$name" >"target/check.$name.before.log" 2>&1 || die "rt check $name failed: target/check.$name.before.log says how"
     lines=$(modules "$name") || exit 2
     printf '%-12s %s\n' "$name" "$(printf '%s\n' "$lines" | kinds)"

@@ -1,64 +1,11 @@
 //! Writes the fixed list of the Rust's answers to standard output, and what it covers to standard error.
 //!
-//! Every answer comes from the original, `docs/src/src/list.rs`, compiled as it stands: nothing here computes what a call leaves. A call is tried on a
-//! copy of the pool first, and is left out where paper 01 refuses it: a position or range outside the list (4), slots that clash (5), or more words
-//! than the lent pool has (7). The list's format is in `docs/RUST-ANSWERS.md`. The same seed gives the same list on every machine.
+//! Every answer comes from the original, `docs/src/src/list.rs`, compiled as it stands (tests/original): nothing here computes what a call leaves. A call
+//! is tried on a copy of the pool first, and is left out where paper 01 refuses it: a position or range outside the list (4), slots that clash (5), or more
+//! words than the lent pool has (7). The list's format is in `docs/RUST-ANSWERS.md`. The same seed gives the same list on every machine.
 
-extern crate alloc;
-pub extern crate core as __core;
-
-use packed_option::ReservedValue;
-use std::fmt;
+use original::{list, EntityRef, Word};
 use std::fmt::Write;
-
-#[allow(dead_code)]
-#[path = "../../docs/src/src/list.rs"]
-mod list;
-
-/// What `list.rs` leans on of its crate's `lib.rs`.
-pub trait EntityRef: Copy + Eq {
-    fn new(index: usize) -> Self;
-    fn index(self) -> usize;
-}
-
-/// What `list.rs` leans on of its crate's `packed_option.rs`.
-pub mod packed_option {
-    pub trait ReservedValue {
-        fn reserved_value() -> Self;
-        fn is_reserved_value(&self) -> bool;
-    }
-}
-
-/// An element: any 32-bit word, of which the largest is the reserved one.
-#[derive(Clone, Copy, PartialEq, Eq)]
-struct Word(u32);
-
-impl EntityRef for Word {
-    fn new(index: usize) -> Self {
-        Word(index as u32)
-    }
-
-    fn index(self) -> usize {
-        self.0 as usize
-    }
-}
-
-impl ReservedValue for Word {
-    fn reserved_value() -> Self {
-        Word(u32::MAX)
-    }
-
-    fn is_reserved_value(&self) -> bool {
-        self.0 == u32::MAX
-    }
-}
-
-/// As its number alone, since the pool's private words are read from what `Debug` writes of it.
-impl fmt::Debug for Word {
-    fn fmt(&self, f: &mut fmt::Formatter<'_>) -> fmt::Result {
-        write!(f, "{}", self.0)
-    }
-}
 
 type List = list::EntityList<Word>;
 type Pool = list::ListPool<Word>;
@@ -140,7 +87,7 @@ fn spelled(call: &Call, pool: &Pool, lists: &[List]) -> (usize, Vec<usize>) {
         Call::IsEmpty(a) => (2, vec![*a]),
         Call::Len(a) => (3, vec![*a]),
         Call::IsValid(a) => (4, vec![*a]),
-        Call::AsSlice(a) => (5, with(*a, &elements_of(lists[*a].as_slice(pool)))),
+        Call::AsSlice(a) => (5, with(*a, Word::to_words(lists[*a].as_slice(pool)))),
         Call::Get(a, i) => (6, vec![*a, *i]),
         Call::First(a) => (7, vec![*a]),
         Call::AsMutSlice(a, e) => (8, with(*a, e)),
@@ -162,15 +109,6 @@ fn spelled(call: &Call, pool: &Pool, lists: &[List]) -> (usize, Vec<usize>) {
     }
 }
 
-/// Words as elements, and back.
-fn words_of(elements: &[u32]) -> Vec<Word> {
-    elements.iter().map(|e| Word(*e)).collect()
-}
-
-fn elements_of(words: &[Word]) -> Vec<u32> {
-    words.iter().map(|w| w.0).collect()
-}
-
 /// Makes the call on the original, and gives its result, 0 where it has none.
 fn made(call: &Call, pool: &mut Pool, lists: &mut Vec<List>) -> usize {
     match call {
@@ -178,7 +116,7 @@ fn made(call: &Call, pool: &mut Pool, lists: &mut Vec<List>) -> usize {
             *pool = Pool::new();
             *lists = vec![List::new(); *slots];
         }
-        Call::FromSlice(a, e) => lists[*a] = List::from_slice(&words_of(e), pool),
+        Call::FromSlice(a, e) => lists[*a] = List::from_slice(Word::from_words(e), pool),
         Call::IsEmpty(a) => return lists[*a].is_empty() as usize,
         Call::Len(a) => return lists[*a].len(pool),
         Call::IsValid(a) => return lists[*a].is_valid(pool) as usize,
@@ -187,7 +125,7 @@ fn made(call: &Call, pool: &mut Pool, lists: &mut Vec<List>) -> usize {
         Call::First(a) => return lists[*a].first(pool).unwrap().index(),
         Call::AsMutSlice(a, e) => {
             let part = lists[*a].as_mut_slice(pool);
-            part.copy_from_slice(&words_of(e));
+            part.copy_from_slice(Word::from_words(e));
             return part.len();
         }
         Call::GetMut(a, i, x) => *lists[*a].get_mut(*i, pool).unwrap() = Word(*x),
@@ -195,7 +133,7 @@ fn made(call: &Call, pool: &mut Pool, lists: &mut Vec<List>) -> usize {
         Call::Clear(a) => lists[*a].clear(pool),
         Call::Take(slot, to) => lists[*to] = lists[*slot].take(),
         Call::Push(a, x) => return lists[*a].push(Word(*x), pool),
-        Call::Extend(a, e) => lists[*a].extend(words_of(e), pool),
+        Call::Extend(a, e) => lists[*a].extend(Word::from_words(e).iter().copied(), pool),
         Call::CopyFrom(slot, source, start, end, position) => {
             let source = lists[*source];
             lists[*slot].copy_from(&source, *start..*end, *position, pool);

@@ -1,4 +1,4 @@
-//! Times each case on each side.
+//! Times each case on each side, and the audit of full pools beside a plain pass.
 //!
 //! A sample is a number of rounds. Each round begins with the same pool, prepared outside the
 //! timing, and what is read is the thread's own processor time, which stands still while others
@@ -6,11 +6,11 @@
 
 use criterion::{black_box, criterion_group, criterion_main};
 use criterion::{Criterion, SamplingMode, Throughput};
+use speed::audits::{self, Full};
 use speed::cases::{self, Case, Outcome};
 use speed::forms::{OriginalCalled, PointerBare, PointerJudged};
 use speed::forms::{ValueBare, ValueCut, ValueJudged, ValueSplit};
-use speed::inputs::{Numbers, MANY};
-use speed::sides::{Crate, Original, Pushes, Shifting, Side, C};
+use speed::sides::{Crate, Original, Pushes, Shifting, C};
 use std::env;
 use std::time::Duration;
 
@@ -104,31 +104,24 @@ fn form<S: Pushes>(criterion: &mut Criterion, name: &str, expected: &Outcome) {
     }
 }
 
-/// So many audits, or plain passes, are timed in one go.
-const TIMES: usize = 16;
+/// Audits, or plain passes, are timed in one go until they have come over so many words, so that
+/// reading the clock weighs the same at each size.
+const WORDS: usize = 1 << 20;
 
-/// The audit of a pool, beside a plain pass over its used words. What counts as a call is a word.
-fn audit(criterion: &mut Criterion) {
-    let mut c = C::cleared(MANY);
-    let mut numbers = Numbers::new(8);
-    for slot in 0..MANY {
-        let length = 1 + numbers.below(31);
-        c.from_slice(slot, &numbers.words(length));
+/// The audit of each full pool, and right after it a plain pass over the same words.
+fn audits(criterion: &mut Criterion) {
+    for (name, kind, words) in audits::all() {
+        let times = (WORDS / words).max(1);
+        let mut full = Full::new(kind, words);
+        let audit = |full: &mut Full| (0..times).for_each(|_| full.counted_audit());
+        bench(criterion, (&name, C::NAME), times, &mut full, |_| (), audit);
+        let pass = |full: &mut Full| {
+            for _ in 0..times {
+                black_box(black_box(&*full).counted_pass());
+            }
+        };
+        bench(criterion, (&name, audits::PASS), times, &mut full, |_| (), pass);
     }
-    for slot in (0..MANY).step_by(2) {
-        c.clear(slot);
-    }
-    let mut map = vec![0; c.used().len() / 4];
-    let words = TIMES * c.used().len();
-    let audits = |map: &mut Vec<u32>| (0..TIMES).for_each(|_| c.audit(map));
-    bench(criterion, ("audit", "c"), words, &mut map, |_| (), audits);
-    let passes = |_: &mut ()| {
-        for _ in 0..TIMES {
-            let words = black_box(c.used());
-            black_box(words.iter().fold(0, |sum: u32, word| sum.wrapping_add(*word)));
-        }
-    };
-    bench(criterion, ("audit", "pass"), words, &mut (), |_| (), passes);
 }
 
 /// How long each is timed: as the environment says, in thousandths of a second.
@@ -143,5 +136,5 @@ fn settings() -> Criterion {
         .measurement_time(time)
 }
 
-criterion_group! { name = all; config = settings(); targets = sides, audit }
+criterion_group! { name = all; config = settings(); targets = sides, audits }
 criterion_main!(all);

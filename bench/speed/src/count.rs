@@ -1,9 +1,9 @@
-//! Runs one round of a case on a side, for a tool that counts instructions, and prints the number
-//! of its calls: `count CASE SIDE`. What is to be counted is `counted_round`. Without arguments it
-//! prints the names of the cases.
+//! Runs one round of a case on a side, or one audit of a full pool or one plain pass over it, for a
+//! tool that counts instructions, and prints the number of its calls: `count NAME SIDE`. What is to
+//! be counted are the functions named `counted_`. Without arguments it prints the names.
 
-use speed::cases;
 use speed::sides::{Crate, Original, Pushes, Shifting, Side, C};
+use speed::{audits, cases};
 use std::env;
 use std::process::exit;
 
@@ -16,20 +16,36 @@ fn run<S: Side>(name: &str) -> Option<usize> {
     Some(case.calls)
 }
 
+/// Audits the full pool once: one call.
+fn audit(name: &str) -> Option<usize> {
+    audits::named(name)?.counted_audit();
+    Some(1)
+}
+
+/// Passes over the full pool once.
+fn pass(name: &str) -> Option<usize> {
+    audits::named(name)?.counted_pass();
+    Some(1)
+}
+
 fn main() {
     let words: Vec<String> = env::args().skip(1).collect();
     let calls = match &words[..] {
-        [] => return println!("{}", cases::ALL.join("\n")),
-        [case, side] if side == C::NAME => run::<C>(case),
-        [case, side] if side == Crate::NAME => run::<Crate>(case),
-        [case, side] if side == Original::NAME => run::<Original>(case),
-        [case, side] if side == Shifting::NAME => run::<Shifting>(case),
+        [] => {
+            cases::ALL.iter().for_each(|name| println!("{name}"));
+            return audits::all().for_each(|(name, ..)| println!("{name}"));
+        }
+        [name, side] if side == C::NAME => run::<C>(name).or_else(|| audit(name)),
+        [name, side] if side == Crate::NAME => run::<Crate>(name),
+        [name, side] if side == Original::NAME => run::<Original>(name),
+        [name, side] if side == Shifting::NAME => run::<Shifting>(name),
+        [name, side] if side == audits::PASS => pass(name),
         _ => None,
     };
     match calls {
         Some(calls) => println!("{calls}"),
         None => {
-            eprintln!("usage: count [CASE SIDE]");
+            eprintln!("usage: count [NAME SIDE]");
             exit(2)
         }
     }

@@ -7,14 +7,9 @@
 use crate::inputs::POOL;
 use crate::sides::{refused, Original, Pushes};
 use maaliskur::sys::{Answer, State};
+use maaliskur::{LONGEST, POOL_LIMIT, TABLE_LIMIT};
 use std::mem::MaybeUninit;
 use std::slice::from_raw_parts_mut;
-
-/// The limit of the table.
-const TABLE: usize = 16_384;
-
-/// The longest list.
-const LONGEST: u32 = 65_535;
 
 /// The class of a length.
 #[inline(always)]
@@ -41,7 +36,8 @@ fn length_at(pool: &[u32], handle: u32) -> u32 {
 #[inline(always)]
 fn number(state: &State, pool: &[u32], handles: &[u32], slot: usize) -> u32 {
     let used = state.used as usize;
-    if pool.len() > POOL || handles.len() > TABLE || used > pool.len() || used % 4 != 0 {
+    if pool.len() > POOL_LIMIT || handles.len() > TABLE_LIMIT || used > pool.len() || used % 4 != 0
+    {
         return 1;
     }
     let handle = match handles.get(slot) {
@@ -59,7 +55,7 @@ fn number(state: &State, pool: &[u32], handles: &[u32], slot: usize) -> u32 {
         }
     }
     let length = length_at(pool, handle);
-    if length >= LONGEST {
+    if length as usize >= LONGEST {
         return 7;
     }
     if moves(length) {

@@ -2,9 +2,10 @@
 //! that build.rs makes.
 
 use crate::inputs::POOL;
-use crate::{list, shifting, Word};
+use crate::shifting;
 use maaliskur::sys::{self, State};
 use maaliskur::Lists;
+use original::{list, Word};
 
 /// A pool and a table of lists, and `push`. A call that is refused ends the program.
 pub trait Pushes {
@@ -89,6 +90,11 @@ pub fn refused(number: u32) -> ! {
 }
 
 impl C {
+    /// A cleared pool of so many words, and a table of so many empty lists.
+    pub fn sized(words: usize, slots: usize) -> C {
+        C { state: State::default(), pool: vec![0; words], handles: vec![0; slots] }
+    }
+
     /// The used words.
     pub fn used(&self) -> &[u32] {
         &self.pool[..self.state.used as usize]
@@ -105,7 +111,7 @@ impl Pushes for C {
     const NAME: &'static str = "c";
 
     fn cleared(slots: usize) -> C {
-        C { state: State::default(), pool: vec![0; POOL], handles: vec![0; slots] }
+        C::sized(POOL, slots)
     }
 
     fn clear_pool(&mut self) {

@@ -11,12 +11,6 @@
 //!   came to.
 //! - [`panics`]: panics that are wanted, caught and not printed.
 
-// What list.rs names by these paths.
-extern crate alloc;
-#[doc(hidden)]
-pub extern crate core as __core;
-pub use original::{packed_option, EntityRef};
-
 #[cfg(feature = "random")]
 pub mod draws;
 pub mod fixed;

@@ -1,60 +1,8 @@
-//! The original, docs/src/src/list.rs as it stands, with a stub of what it leans on, and a call by
-//! it.
-//!
-//! Its element type is a plain wrapper over `u32`, any value, with 4,294,967,295 as the reserved
-//! one: `entity_impl!` does the same, but asserts in debug builds that an index is not the reserved
-//! value.
+//! A call by the original, docs/src/src/list.rs as it stands, which tests/original has.
 
 use crate::world::{Call, Outcome};
-use list::{EntityList, ListPool};
-use packed_option::ReservedValue;
-
-#[path = "../../../docs/src/src/list.rs"]
-#[allow(clippy::all)]
-pub mod list;
-
-/// What list.rs asks of an element, as in the original's lib.rs.
-pub trait EntityRef: Copy + Eq {
-    /// Makes an element from an index.
-    fn new(index: usize) -> Self;
-    /// The index that the element was made from.
-    fn index(self) -> usize;
-}
-
-/// The part of the original's packed_option.rs that list.rs uses.
-pub mod packed_option {
-    /// Types that have a reserved value.
-    pub trait ReservedValue {
-        /// The reserved value.
-        fn reserved_value() -> Self;
-        /// Is this the reserved value?
-        fn is_reserved_value(&self) -> bool;
-    }
-}
-
-/// An element: any word.
-#[derive(Clone, Copy, Debug, PartialEq, Eq)]
-pub struct Word(pub u32);
-
-impl EntityRef for Word {
-    fn new(index: usize) -> Word {
-        Word(index as u32)
-    }
-
-    fn index(self) -> usize {
-        self.0 as usize
-    }
-}
-
-impl ReservedValue for Word {
-    fn reserved_value() -> Word {
-        Word(u32::MAX)
-    }
-
-    fn is_reserved_value(&self) -> bool {
-        self.0 == u32::MAX
-    }
-}
+use original::list::{EntityList, ListPool};
+use original::Word;
 
 /// A pool of the original, and a table of its lists.
 pub struct Original {

@@ -6,11 +6,11 @@
 //! assertions and overflow checks, which the original then has too.
 
 use beside::fixed::{done, list, refused, world, M};
-use beside::original::list::{EntityList, ListPool};
-use beside::original::{EntityRef, Word};
-use beside::packed_option::ReservedValue;
 use beside::panics::caught;
 use beside::world::{Call, World};
+use original::list::{EntityList, ListPool};
+use original::packed_option::ReservedValue;
+use original::{EntityRef, Word};
 
 /// Is the original built with debug assertions and overflow checks?
 const DEBUG: bool = cfg!(debug_assertions);
