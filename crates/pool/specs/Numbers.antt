@@ -40,6 +40,8 @@ soundHandle used ws h =
     eqb h 0 || (eqb (h % 4) 1 && ltb h used && leb 1 n && leb (h - 1 + sizeOf (classOf n)) used)
 
 -- "A head is locally sound if it is 0, or leaves 1 on division by 4, has 0 in the word before it, and its block of that class lies below used."
+-- A word that is not there counts as 0. No call and no audit meets that: a head is judged after 1, so used is within the pool, and a block that lies
+-- below used has all its words.
 unfoldable pub soundHead : ℕ → List ℕ → ℕ → ℕ → Bool
 soundHead used ws c h = eqb h 0 || (eqb (h % 4) 1 && leb (h - 1 + sizeOf c) used && eqb (getD ws (h - 1) 0) 0)
 

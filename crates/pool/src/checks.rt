@@ -66,6 +66,7 @@ pub fn sound_head(used: usize, pool: &[u32], c: u32, h: u32) -> bool
     if h % 4 != 1 {
         return false;
     }
+    // No block of such a class lies below used: its size is over 64 bits, and `SizeClass::size` gives 0 for it.
     if c >= 62 {
         return false;
     }
@@ -73,6 +74,7 @@ pub fn sound_head(used: usize, pool: &[u32], c: u32, h: u32) -> bool
     if at - 1 + SizeClass::size(c) > used {
         return false;
     }
+    // A word that is not there counts as 0, as in the rule. Where used is within the pool, as it is wherever a head is judged, it is there.
     if at > pool.len() {
         return true;
     }
