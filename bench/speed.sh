@@ -12,6 +12,7 @@
 set -u
 
 die() { printf 'bench/speed.sh: %s\n' "$*" >&2; exit 2; }
+say() { printf 'bench/speed.sh: %s\n' "$*" >&2; }
 have() { command -v "$1" >/dev/null 2>&1; }
 
 cd "$(dirname "$0")/.." || die "cannot enter the repository"
@@ -58,11 +59,13 @@ fi
 # ---- the archive, where it is older than a source, and the benchmark. No lock file stays behind: which versions there are is Debian's to say.
 archive=target/staticlib/libmaaliskur.a
 if [ ! -f "$archive" ] || [ -n "$(find crates crates.txt -newer "$archive")" ]; then
+    say "proving and building the archive, some minutes"
     rt staticlib maaliskur >"$out/archive.log" 2>&1 || { cat "$out/archive.log"; die "rt staticlib maaliskur failed"; }
 fi
 
 # Builds with cargo.
 built() { # WORDS..
+    say "building the benchmark"
     (cd bench/speed && cargo "$@" --offline --message-format short) >"$out/build.log" 2>&1 || { cat "$out/build.log" >&2; die "cargo $1 failed"; }
     rm -f bench/speed/Cargo.lock
 }
@@ -152,6 +155,7 @@ time_tables() {
     rm -rf "$out/runs"
     number=1
     while [ "$number" -le "$processes" ]; do
+        say "process $number of $processes"
         mkdir -p "$out/runs/$number" && process "$number"
         number=$((number + 1))
     done
@@ -168,15 +172,22 @@ counted() { # NAME SIDE
     awk -v calls="$calls" '/Collected : / { n = $NF } END { if (!n) exit 1; printf "%.1f", n / calls }' "$out/count.log" || die "valgrind counted nothing of $*"
 }
 
-count_tables() {
-    built build --release
+# The lines NAME,INSTRUCTIONS.. of the cases and the pools, a number for each side.
+count_lines() {
     names | while read -r name; do
+        say "counting $name"
         sides='c crate original shifting'
         case $name in audit*) sides='c pass' ;; esac
         line=$name
         for side in $sides; do line=$line,$(counted "$name" "$side") || exit 2; done
         echo "$line"
-    done | awk -F, "$audits"'
+    done
+}
+
+count_tables() {
+    built build --release
+    lines=$(count_lines) || exit 2
+    printf '%s\n' "$lines" | awk -F, "$audits"'
         NF == 5 && !calls++ {
             print "instructions of a call"
             printf "%-18s %8s %8s %8s %8s   %6s %6s\n", "", "C", "crate", "original", "shifting", "C/orig", "C/sh" }
