@@ -3,8 +3,8 @@
 use Prim.Native.Nat.{ℕ}
 use mathlib.Core.Path.{_≡_, refl}
 use mathlib.Core.List.{List, [], _∷_, _++_, map}
-use lib.ListN.{replicate}
-use Rattle.sizes.specs.Class.{classOf, sizeOf}
+use lib.ListN.{set, replicate}
+use Rattle.sizes.specs.Class.{classCount, classOf, sizeOf}
 use Rattle.words.specs.Runs.{filled, copied, stored}
 use Rattle.pool.specs.Numbers.{_orElse_, stateOf, lengthAt, soundHandle, soundHead, given, tooLong, overLimit, entryNumber, entryNumber₂, badHead, noRoom}
 use Rattle.pool.specs.Numbers.{roomNumber, needsBlock, needNumber}
@@ -50,7 +50,7 @@ leaving w after calls = map (λ call. row call w 0 0 after) calls
 
 -- the heads of the classes 0, 1 and 2; the others are 0
 abbrev headed : ℕ → ℕ → ℕ → List ℕ
-headed a b c = a ∷ b ∷ c ∷ replicate 12 0
+headed a b c = set (set (set (replicate classCount 0) 0 a) 1 b) 2 c
 
 -- "THE LOWEST NUMBER THAT APPLIES IS GIVEN"
 
@@ -338,22 +338,22 @@ overlaps =
     (world 12 (headed 0 0 0) (4 ∷ 10 ∷ 11 ∷ 12 ∷ 4 ∷ 10 ∷ 11 ∷ 12 ∷ 4 ∷ 0 ∷ 0 ∷ 0 ∷ []) (1 ∷ 5 ∷ [])) (deepClone 0 1 ∷ [])
 
 -- every row is what the rules give
-pub lowest-given : map computed lowest ≡ lowest
+pub lowest-rows : map computed lowest ≡ lowest
 unfolding lowest computed
-lowest-given = refl
+lowest-rows = refl
 
-pub causes-given : map computed causes ≡ causes
+pub cause-rows : map computed causes ≡ causes
 unfolding causes computed
-causes-given = refl
+cause-rows = refl
 
-pub limits-given : map computed limits ≡ limits
+pub limit-rows : map computed limits ≡ limits
 unfolding limits computed
-limits-given = refl
+limit-rows = refl
 
-pub deeds-done : map computed deeds ≡ deeds
+pub deed-rows : map computed deeds ≡ deeds
 unfolding deeds computed
-deeds-done = refl
+deed-rows = refl
 
-pub overlaps-done : map computed overlaps ≡ overlaps
+pub overlap-rows : map computed overlaps ≡ overlaps
 unfolding overlaps computed
-overlaps-done = refl
+overlap-rows = refl
