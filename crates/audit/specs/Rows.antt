@@ -8,7 +8,7 @@ use Rattle.sizes.specs.Class.{classCount, classOf, sizeOf}
 use Rattle.words.specs.Runs.{filled, copied, stored}
 use Rattle.pool.specs.Numbers.{_orElse_, stateOf, lengthAt, soundHandle, soundHead, given, tooLong, overLimit, entryNumber, entryNumber₂, badHead, noRoom}
 use Rattle.pool.specs.Numbers.{roomNumber, needsBlock, needNumber}
-use Rattle.pool.specs.Blocks.{MAX, recycled, fresh, alloc, free, realloc, moved}
+use Rattle.pool.specs.Blocks.{recycled, fresh, alloc, free, realloc, moved}
 use Rattle.pool.specs.Rules.{Call, fromSlice, isEmpty, len, isValid, get, first, setAt, deepClone, clear, take, push, extend, copyFrom, insert, remove}
 use Rattle.pool.specs.Rules.{swapRemove, truncate, growAt, clearPool, called, unless, numberOf, doneOf, cleared, lastRemoved, grown, opened, atNumber}
 use Rattle.pool.specs.Rules.{takeNumber, fromSliceNumber, fromSliceDone, isEmptyDone, lenDone, isValidDone, getDone, setDone, deepCloneNumber, deepCloneDone}
@@ -48,6 +48,10 @@ giving value w calls = map (λ call. row call w 0 value w) calls
 unfoldable pub leaving : World → World → List Call → List Row
 leaving w after calls = map (λ call. row call w 0 0 after) calls
 
+-- "M is MAX"
+abbrev M : ℕ
+M = 4294967295
+
 -- the heads of the classes 0, 1 and 2; the others are 0
 abbrev headed : ℕ → ℕ → ℕ → List ℕ
 headed a b c = set (set (set (replicate classCount 0) 0 a) 1 b) 2 c
@@ -56,7 +60,7 @@ headed a b c = set (set (set (replicate classCount 0) 0 a) 1 b) 2 c
 
 -- twelve words, all used: a list of three, and a list of four whose elements are 3, 4, 0, 12
 abbrev twelve : List ℕ
-twelve = 3 ∷ 7 ∷ 8 ∷ 9 ∷ 4 ∷ 3 ∷ 4 ∷ 0 ∷ 12 ∷ MAX ∷ MAX ∷ MAX ∷ []
+twelve = 3 ∷ 7 ∷ 8 ∷ 9 ∷ 4 ∷ 3 ∷ 4 ∷ 0 ∷ 12 ∷ M ∷ M ∷ M ∷ []
 
 -- Slot 0 is the list of three, slot 1 that of four, slot 2 is empty. The handles 6, 7 and 8 do not leave 1 on division by 4, so slots 3, 4 and 5 are
 -- not sound; the words before these handles, their lengths, are 3, 4 and 0. Slot 6 is not in the table.
@@ -163,7 +167,8 @@ causes =
     -- 2, 3 of every call
     refusing 2 full (every 6 ++ both 2 6 ++ both 6 2)
     ++ refusing 3 full (every 3 ++ both 2 3 ++ both 3 2)
-    -- 3: a length of 0; a block that ends past used; a handle past used; a handle past the pool
+    -- 3: handles that leave 2, 3 and 0 on division by 4; a length of 0; a block that ends past used; a handle past used; a handle past the pool
+    ++ refusing 3 (world 12 (headed 0 0 0) (replicate 12 1) (2 ∷ 3 ∷ 4 ∷ [])) (len 0 ∷ len 1 ∷ len 2 ∷ [])
     ++ refusing 3 (world 4 (headed 0 0 0) (0 ∷ 7 ∷ 8 ∷ 9 ∷ []) (1 ∷ [])) (len 0 ∷ [])
     ++ refusing 3 (world 4 (headed 0 0 0) (4 ∷ 7 ∷ 8 ∷ 9 ∷ 3 ∷ 7 ∷ 8 ∷ 9 ∷ []) (1 ∷ 5 ∷ 9 ∷ [])) (len 0 ∷ len 1 ∷ len 2 ∷ [])
     -- 4: a position at the length, or past it
@@ -174,7 +179,8 @@ causes =
     ++ refusing 5 full (fromSlice 0 [] ∷ deepClone 2 0 ∷ deepClone 0 0 ∷ take 2 2 ∷ take 0 0 ∷ take 2 0 ∷ take 0 1 ∷ [])
     -- 5: equal handles, of one slot and of two; two empty lists
     ++ refusing 5 (world 4 (headed 0 0 0) (3 ∷ 7 ∷ 8 ∷ 9 ∷ []) (1 ∷ 1 ∷ 0 ∷ 0 ∷ [])) (both 0 0 ++ copyFrom 0 1 0 0 0 ∷ copyFrom 2 3 0 0 0 ∷ [])
-    -- 6: the word before the head is not 0; the head's block ends past used
+    -- 6: heads that leave 2, 3 and 0 on division by 4; a head whose word before it is not 0; heads whose block ends past used
+    ++ refusing 6 (world 24 (headed 2 3 4) (replicate 24 0) (0 ∷ [])) (push 0 9 ∷ growAt 0 0 4 ∷ growAt 0 0 8 ∷ [])
     ++ refusing 6 (world 4 (headed 1 0 0) (5 ∷ replicate 15 0) (0 ∷ [])) (push 0 9 ∷ [])
     ++ refusing 6 (world 4 (headed 5 1 0) (replicate 16 0) (0 ∷ [])) (push 0 9 ∷ growAt 0 0 4 ∷ [])
     -- 7: a length over 65,535, whatever the heads
@@ -197,10 +203,10 @@ abbrev three : List ℕ
 three = 3 ∷ 7 ∷ 8 ∷ 9 ∷ []
 
 abbrev four : List ℕ
-four = 4 ∷ 10 ∷ 11 ∷ 12 ∷ 13 ∷ MAX ∷ MAX ∷ MAX ∷ []
+four = 4 ∷ 10 ∷ 11 ∷ 12 ∷ 13 ∷ M ∷ M ∷ M ∷ []
 
 abbrev one : List ℕ
-one = 1 ∷ 14 ∷ MAX ∷ MAX ∷ []
+one = 1 ∷ 14 ∷ M ∷ M ∷ []
 
 -- twenty words, all used: a free block of class 0, and the lists of slots 0, 1 and 3; slot 2 is empty
 abbrev lists : World
@@ -229,6 +235,14 @@ roomy = world 16 (headed 0 5 0) (three ++ (0 ∷ 0 ∷ 31 ∷ 32 ∷ 33 ∷ 34 �
 abbrev up : List ℕ → World
 up block = world 16 (headed 1 0 0) ((0 ∷ 0 ∷ 8 ∷ 9 ∷ []) ++ block ++ one) (5 ∷ 13 ∷ 0 ∷ [])
 
+-- twelve words, four of them used: the list of slot 0; slot 1 is empty
+abbrev bare : World
+bare = world 4 (headed 0 0 0) (three ++ replicate 8 5) (1 ∷ 0 ∷ [])
+
+-- slot 1 has the first block behind used
+abbrev begun : List ℕ → World
+begun block = world 8 (headed 0 0 0) (three ++ block ++ replicate 4 5) (1 ∷ 5 ∷ [])
+
 unfoldable pub deeds : List Row
 unfolding giving leaving
 deeds =
@@ -244,7 +258,7 @@ deeds =
     ++ giving 0 badHeads (fromSlice 2 [] ∷ deepClone 2 2 ∷ clear 2 ∷ extend 0 [] ∷ extend 2 [] ∷ copyFrom 0 1 2 2 1 ∷ copyFrom 2 0 3 3 0 ∷ [])
     ++ giving 0 badHeads (growAt 0 1 0 ∷ growAt 2 0 0 ∷ truncate 0 3 ∷ truncate 0 4 ∷ truncate 2 0 ∷ truncate 2 5 ∷ [])
     -- "setting writes that word alone"
-    ++ leaving lists (four-is (4 ∷ 10 ∷ 11 ∷ 99 ∷ 13 ∷ MAX ∷ MAX ∷ MAX ∷ [])) (setAt 1 2 99 ∷ [])
+    ++ leaving lists (four-is (4 ∷ 10 ∷ 11 ∷ 99 ∷ 13 ∷ M ∷ M ∷ M ∷ [])) (setAt 1 2 99 ∷ [])
     -- "`take` moves the handle to the other slot and leaves 0"
     ++ leaving lists (world 20 (headed 1 0 0) (spare ++ three ++ four ++ one) (0 ∷ 9 ∷ 5 ∷ 17 ∷ [])) (take 0 2 ∷ [])
     -- "with a head h, the head becomes the word at h and the block is h - 1, its words untouched"
@@ -252,16 +266,18 @@ deeds =
     ++ leaving lists (taken (1 ∷ 21 ∷ 5 ∷ 6 ∷ [])) (push 2 21 ∷ insert 2 0 21 ∷ [])
     ++ leaving lists (taken (2 ∷ 0 ∷ 5 ∷ 6 ∷ [])) (growAt 2 0 2 ∷ [])
     ++ leaving lists (taken three) (deepClone 0 2 ∷ copyFrom 2 0 0 3 0 ∷ [])
-    -- "Else the block starts at used, all its words become MAX, used grows": to the end of the pool
-    ++ leaving (world 4 (headed 0 0 0) (three ++ replicate 4 5) (1 ∷ 0 ∷ [])) (world 8 (headed 0 0 0) (three ++ (1 ∷ 9 ∷ MAX ∷ MAX ∷ [])) (1 ∷ 5 ∷ []))
-    (fromSlice 1 nine ∷ push 1 9 ∷ extend 1 nine ∷ insert 1 0 9 ∷ copyFrom 1 0 2 3 0 ∷ [])
-    ++ leaving (world 4 (headed 0 0 0) (three ++ replicate 4 5) (1 ∷ 0 ∷ [])) (world 8 (headed 0 0 0) (three ++ three) (1 ∷ 5 ∷ [])) (deepClone 0 1 ∷ [])
+    -- "Else the block starts at used, all its words become MAX, used grows": a block of class 0; one of class 1, to the end of the pool
+    ++ leaving bare (begun (1 ∷ 9 ∷ M ∷ M ∷ [])) (fromSlice 1 nine ∷ push 1 9 ∷ extend 1 nine ∷ insert 1 0 9 ∷ copyFrom 1 0 2 3 0 ∷ [])
+    ++ leaving bare (begun (2 ∷ M ∷ M ∷ M ∷ [])) (growAt 1 0 2 ∷ [])
+    ++ leaving bare (begun three) (deepClone 0 1 ∷ [])
+    ++ leaving bare (world 12 (headed 0 0 0) (three ++ (4 ∷ replicate 7 M)) (1 ∷ 5 ∷ [])) (growAt 1 0 4 ∷ [])
+    ++ row (push 0 21) bare 0 3 (world 12 (headed 1 0 0) (0 ∷ 0 ∷ 8 ∷ 9 ∷ 4 ∷ 7 ∷ 8 ∷ 9 ∷ 21 ∷ M ∷ M ∷ M ∷ []) (5 ∷ 0 ∷ []))
     -- in the list's own block: "`push` returns the old length", the others give 0
-    ++ row (push 1 21) lists 0 4 (four-is (5 ∷ 10 ∷ 11 ∷ 12 ∷ 13 ∷ 21 ∷ MAX ∷ MAX ∷ []))
-    ∷ leaving lists (four-is (6 ∷ 10 ∷ 11 ∷ 12 ∷ 13 ∷ 21 ∷ 22 ∷ MAX ∷ [])) (extend 1 (21 ∷ 22 ∷ []) ∷ [])
-    ++ leaving lists (four-is (6 ∷ 10 ∷ 8 ∷ 9 ∷ 11 ∷ 12 ∷ 13 ∷ MAX ∷ [])) (copyFrom 1 0 1 3 1 ∷ [])
-    ++ leaving lists (four-is (5 ∷ 10 ∷ 21 ∷ 11 ∷ 12 ∷ 13 ∷ MAX ∷ MAX ∷ [])) (insert 1 1 21 ∷ [])
-    ++ leaving lists (four-is (6 ∷ 10 ∷ 11 ∷ 12 ∷ 11 ∷ 12 ∷ 13 ∷ MAX ∷ [])) (growAt 1 1 2 ∷ [])
+    ∷ row (push 1 21) lists 0 4 (four-is (5 ∷ 10 ∷ 11 ∷ 12 ∷ 13 ∷ 21 ∷ M ∷ M ∷ []))
+    ∷ leaving lists (four-is (6 ∷ 10 ∷ 11 ∷ 12 ∷ 13 ∷ 21 ∷ 22 ∷ M ∷ [])) (extend 1 (21 ∷ 22 ∷ []) ∷ [])
+    ++ leaving lists (four-is (6 ∷ 10 ∷ 8 ∷ 9 ∷ 11 ∷ 12 ∷ 13 ∷ M ∷ [])) (copyFrom 1 0 1 3 1 ∷ [])
+    ++ leaving lists (four-is (5 ∷ 10 ∷ 21 ∷ 11 ∷ 12 ∷ 13 ∷ M ∷ M ∷ [])) (insert 1 1 21 ∷ [])
+    ++ leaving lists (four-is (6 ∷ 10 ∷ 11 ∷ 12 ∷ 11 ∷ 12 ∷ 13 ∷ M ∷ [])) (growAt 1 1 2 ∷ [])
     ++ leaving lists (three-is (2 ∷ 8 ∷ 9 ∷ 9 ∷ [])) (remove 0 0 ∷ [])
     ++ leaving lists (three-is (2 ∷ 9 ∷ 8 ∷ 7 ∷ [])) (swapRemove 0 0 ∷ [])
     ++ leaving lists (three-is (2 ∷ 7 ∷ 8 ∷ 9 ∷ [])) (truncate 0 2 ∷ remove 0 2 ∷ swapRemove 0 2 ∷ [])
@@ -271,20 +287,20 @@ deeds =
     ++ leaving roomy (up (4 ∷ 7 ∷ 14 ∷ 8 ∷ 9 ∷ 34 ∷ 35 ∷ 36 ∷ [])) (copyFrom 0 1 0 1 1 ∷ insert 0 1 14 ∷ [])
     ++ leaving roomy (up (5 ∷ 7 ∷ 8 ∷ 9 ∷ 8 ∷ 9 ∷ 35 ∷ 36 ∷ [])) (growAt 0 1 2 ∷ [])
     -- one class down, "copying old-length words"; `truncate` "copying new length + 1 words"
-    ++ leaving lists (down (3 ∷ 10 ∷ 12 ∷ 13 ∷ []) (0 ∷ 0 ∷ 12 ∷ 13 ∷ 13 ∷ MAX ∷ MAX ∷ MAX ∷ [])) (remove 1 1 ∷ [])
-    ++ leaving lists (down (3 ∷ 10 ∷ 13 ∷ 12 ∷ []) (0 ∷ 0 ∷ 13 ∷ 12 ∷ 11 ∷ MAX ∷ MAX ∷ MAX ∷ [])) (swapRemove 1 1 ∷ [])
-    ++ leaving lists (down (2 ∷ 10 ∷ 11 ∷ 6 ∷ []) (0 ∷ 0 ∷ 11 ∷ 12 ∷ 13 ∷ MAX ∷ MAX ∷ MAX ∷ [])) (truncate 1 2 ∷ [])
+    ++ leaving lists (down (3 ∷ 10 ∷ 12 ∷ 13 ∷ []) (0 ∷ 0 ∷ 12 ∷ 13 ∷ 13 ∷ M ∷ M ∷ M ∷ [])) (remove 1 1 ∷ [])
+    ++ leaving lists (down (3 ∷ 10 ∷ 13 ∷ 12 ∷ []) (0 ∷ 0 ∷ 13 ∷ 12 ∷ 11 ∷ M ∷ M ∷ M ∷ [])) (swapRemove 1 1 ∷ [])
+    ++ leaving lists (down (2 ∷ 10 ∷ 11 ∷ 6 ∷ []) (0 ∷ 0 ∷ 11 ∷ 12 ∷ 13 ∷ M ∷ M ∷ M ∷ [])) (truncate 1 2 ∷ [])
     -- to no element: "`clear` frees the block, if any, and sets the handle to 0"
     ++ leaving lists (world 20 (headed 5 0 0) (spare ++ (0 ∷ 1 ∷ 8 ∷ 9 ∷ []) ++ four ++ one) (0 ∷ 9 ∷ 0 ∷ 17 ∷ [])) (clear 0 ∷ truncate 0 0 ∷ [])
-    ++ leaving lists (world 20 (headed 17 0 0) (spare ++ three ++ four ++ (0 ∷ 1 ∷ MAX ∷ MAX ∷ [])) (5 ∷ 9 ∷ 0 ∷ 0 ∷ [])) (remove 3 0 ∷ swapRemove 3 0 ∷ [])
+    ++ leaving lists (world 20 (headed 17 0 0) (spare ++ three ++ four ++ (0 ∷ 1 ∷ M ∷ M ∷ [])) (5 ∷ 9 ∷ 0 ∷ 0 ∷ [])) (remove 3 0 ∷ swapRemove 3 0 ∷ [])
     -- no head is looked at: the old one is stored, whatever it is
-    ++ leaving (world 4 (headed 2 2 2) one (1 ∷ [])) (world 4 (headed 1 2 2) (0 ∷ 2 ∷ MAX ∷ MAX ∷ []) (0 ∷ []))
+    ++ leaving (world 4 (headed 2 2 2) one (1 ∷ [])) (world 4 (headed 1 2 2) (0 ∷ 2 ∷ M ∷ M ∷ []) (0 ∷ []))
     (clear 0 ∷ truncate 0 0 ∷ remove 0 0 ∷ swapRemove 0 0 ∷ [])
     -- "Pool `clear` sets used, heads and all handles to 0 and touches no pool word (used and heads within limits are not required for it"
     ++ leaving lists (world 0 (headed 0 0 0) (spare ++ three ++ four ++ one) (replicate 4 0)) (clearPool ∷ [])
     ++ leaving (world 3 (headed 9 9 9) (8 ∷ 8 ∷ []) (5 ∷ [])) (world 0 (headed 0 0 0) (8 ∷ 8 ∷ []) (0 ∷ [])) (clearPool ∷ [])
     -- `insert` writes nothing behind its list
-    ++ leaving (world 8 (headed 0 0 0) ((2 ∷ 7 ∷ 8 ∷ MAX ∷ []) ++ one) (1 ∷ 5 ∷ [])) (world 8 (headed 0 0 0) ((3 ∷ 6 ∷ 7 ∷ 8 ∷ []) ++ one) (1 ∷ 5 ∷ []))
+    ++ leaving (world 8 (headed 0 0 0) ((2 ∷ 7 ∷ 8 ∷ M ∷ []) ++ one) (1 ∷ 5 ∷ [])) (world 8 (headed 0 0 0) ((3 ∷ 6 ∷ 7 ∷ 8 ∷ []) ++ one) (1 ∷ 5 ∷ []))
     (insert 0 0 6 ∷ [])
 
 -- THE ORDER OF READING AND WRITING, WHERE BLOCKS OVERLAP
@@ -299,7 +315,7 @@ three-moved ws = world 8 (headed 5 33 0) ws (1 ∷ [])
 
 -- a list of eight; at its fourth element, which is 0, begin a free block of class 0 and one of class 1
 abbrev eight : World
-eight = world 16 (headed 5 5 13) (8 ∷ 21 ∷ 22 ∷ 23 ∷ 0 ∷ 25 ∷ 26 ∷ 27 ∷ 28 ∷ replicate 7 MAX) (1 ∷ [])
+eight = world 16 (headed 5 5 13) (8 ∷ 21 ∷ 22 ∷ 23 ∷ 0 ∷ 25 ∷ 26 ∷ 27 ∷ 28 ∷ replicate 7 M) (1 ∷ [])
 
 unfoldable pub overlaps : List Row
 unfolding leaving
@@ -314,16 +330,16 @@ overlaps =
     ++ row (push 0 28)
     (world 16 (headed 0 13 1) (0 ∷ 33 ∷ 31 ∷ 32 ∷ 7 ∷ 21 ∷ 22 ∷ 23 ∷ 24 ∷ 25 ∷ 26 ∷ 27 ∷ 34 ∷ 35 ∷ 36 ∷ 37 ∷ []) (5 ∷ [])) 0 7
     (world 16 (headed 0 5 33) (8 ∷ 21 ∷ 22 ∷ 23 ∷ 0 ∷ 13 ∷ 26 ∷ 27 ∷ 28 ∷ 25 ∷ 26 ∷ 27 ∷ 34 ∷ 35 ∷ 36 ∷ 37 ∷ []) (1 ∷ []))
-    ∷ leaving (world 20 (headed 0 1 13) (0 ∷ 33 ∷ 31 ∷ 32 ∷ 8 ∷ 21 ∷ 22 ∷ 23 ∷ 24 ∷ 25 ∷ 26 ∷ 27 ∷ 28 ∷ replicate 7 MAX) (5 ∷ []))
-    (world 20 (headed 0 33 5) (7 ∷ 21 ∷ 22 ∷ 23 ∷ 0 ∷ 13 ∷ 26 ∷ 27 ∷ 24 ∷ 25 ∷ 26 ∷ 27 ∷ 28 ∷ replicate 7 MAX) (1 ∷ []))
+    ∷ leaving (world 20 (headed 0 1 13) (0 ∷ 33 ∷ 31 ∷ 32 ∷ 8 ∷ 21 ∷ 22 ∷ 23 ∷ 24 ∷ 25 ∷ 26 ∷ 27 ∷ 28 ∷ replicate 7 M) (5 ∷ []))
+    (world 20 (headed 0 33 5) (7 ∷ 21 ∷ 22 ∷ 23 ∷ 0 ∷ 13 ∷ 26 ∷ 27 ∷ 24 ∷ 25 ∷ 26 ∷ 27 ∷ 28 ∷ replicate 7 M) (1 ∷ []))
     (remove 0 7 ∷ swapRemove 0 7 ∷ truncate 0 7 ∷ [])
     -- the word at the head is read before the copy: head 2 is 25, not 21; all words are read before any is written: word 8 is 0, not 7
     ++ row (push 0 28) (world 20 (headed 0 13 5) (7 ∷ 21 ∷ 22 ∷ 23 ∷ 0 ∷ 25 ∷ 26 ∷ 27 ∷ replicate 12 9) (1 ∷ [])) 0 7
     (world 20 (headed 0 1 25) (0 ∷ 13 ∷ 22 ∷ 23 ∷ 8 ∷ 21 ∷ 22 ∷ 23 ∷ 0 ∷ 25 ∷ 26 ∷ 27 ∷ 28 ∷ replicate 7 9) (5 ∷ []))
     -- the word at the head is read after `remove` and `swap_remove` have changed the list: head 1 is 26 and 28, not 25; `truncate` changes nothing first
-    ∷ leaving eight (world 16 (headed 5 26 1) (0 ∷ 13 ∷ 23 ∷ 0 ∷ 7 ∷ 22 ∷ 23 ∷ 0 ∷ 25 ∷ 26 ∷ 27 ∷ 28 ∷ replicate 4 MAX) (5 ∷ [])) (remove 0 0 ∷ [])
-    ++ leaving eight (world 16 (headed 5 28 1) (0 ∷ 13 ∷ 22 ∷ 23 ∷ 7 ∷ 21 ∷ 22 ∷ 23 ∷ 0 ∷ 28 ∷ 26 ∷ 27 ∷ replicate 4 MAX) (5 ∷ [])) (swapRemove 0 4 ∷ [])
-    ++ leaving eight (world 16 (headed 25 5 1) (0 ∷ 13 ∷ 22 ∷ 23 ∷ 3 ∷ 21 ∷ 22 ∷ 23 ∷ 28 ∷ replicate 7 MAX) (5 ∷ [])) (truncate 0 3 ∷ [])
+    ∷ leaving eight (world 16 (headed 5 26 1) (0 ∷ 13 ∷ 23 ∷ 0 ∷ 7 ∷ 22 ∷ 23 ∷ 0 ∷ 25 ∷ 26 ∷ 27 ∷ 28 ∷ replicate 4 M) (5 ∷ [])) (remove 0 0 ∷ [])
+    ++ leaving eight (world 16 (headed 5 28 1) (0 ∷ 13 ∷ 22 ∷ 23 ∷ 7 ∷ 21 ∷ 22 ∷ 23 ∷ 0 ∷ 28 ∷ 26 ∷ 27 ∷ replicate 4 M) (5 ∷ [])) (swapRemove 0 4 ∷ [])
+    ++ leaving eight (world 16 (headed 25 5 1) (0 ∷ 13 ∷ 22 ∷ 23 ∷ 3 ∷ 21 ∷ 22 ∷ 23 ∷ 28 ∷ replicate 7 M) (5 ∷ [])) (truncate 0 3 ∷ [])
     -- `copy_from` takes its source words after the shift: word 1 is 1, not 20
     ++ leaving (world 8 (headed 0 0 0) (4 ∷ 10 ∷ 11 ∷ 12 ∷ 1 ∷ 20 ∷ 0 ∷ 0 ∷ []) (1 ∷ 5 ∷ []))
     (world 8 (headed 0 0 0) (5 ∷ 1 ∷ 10 ∷ 11 ∷ 12 ∷ 1 ∷ 0 ∷ 0 ∷ []) (1 ∷ 5 ∷ [])) (copyFrom 0 1 0 1 0 ∷ [])
