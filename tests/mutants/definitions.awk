@@ -1,56 +1,45 @@
-# Lists the mutants of the definitions in a file of specs: awk -f definitions.awk FILE. A line for each: KIND, NAME, LINE, edits as list.awk has them.
-# `use` lines, comments, signatures and the levels of types are passed over.
-{ text = $0 }
-# what the file has in scope: a mutant names nothing else
-text ~ /^use / { scope = scope " " text; gsub(/[{},]/, " ", scope) }
-text ~ /^ *--/ || text ~ /^(use|infix|module|open)/ || text ~ /^ *$/ { next }
-# the definition that a line belongs to: its signature is passed over
-text ~ /^ *(unfoldable |abbrev )(pub )?[^ ]+ .*:/ {
-    name = text
-    sub(/^ *(unfoldable |abbrev )(pub )?/, "", name)
+# Lists the mutants of definitions: awk -f list.awk -f definitions.awk FILE.. `use` lines, comments and signatures are passed over, and what stands
+# before a line's `=`. What takes a token's place is something that the file has in scope.
+BEGIN {
+    word = "^[^ (){};,.]+"
+    others("operator", "+ - *,- +,* + ^,/ * %,% /,^ *,min _+_")
+    others("test", "ltb leb eqb,leb ltb eqb,eqb leb ltb,|| &&,&& ||")
+    others("constant", "true false")
+}
+FNR == 1 { scope = "" }
+/^use / { scope = scope " " $0 " "; gsub(/[{},]/, " ", scope) }
+/^ *((unfoldable|abbrev) (pub )?[^ ]+ .*:|(pub )?(record|data) )/ {
+    name = $0
+    sub(/^ *((unfoldable|abbrev|pub|record|data) )+/, "", name)
     sub(/ .*/, "", name)
+    n = left = 0
     next
 }
-text ~ /^ *(pub )?(record|data) / {
-    name = text
-    sub(/^ *(pub )?(record|data) /, "", name)
-    sub(/ .*/, "", name)
-    next
-}
-text ~ /^ *unfolding / { next }
-{
-    k = 1
-    previous = ""
-    while (k <= length(text)) {
-        t = substr(text, k)
-        if (match(t, /^ +/)) { k += RLENGTH; continue }
-        if (match(t, /^[^ ();,.]+/)) { word = substr(t, 1, RLENGTH) } else word = substr(t, 1, 1)
-        size = length(word)
-        if (previous != "." && previous != "Type") token()
-        previous = word
-        k += size
+!/^ *(--|unfolding )|^(use|infix|module|open)|^ *$/ {
+    first = n + 1
+    tokens($0, 1)
+    for (i = first; i <= n; i = closing(i) + 1) {
+        if (tok[i] ~ /^(=|in)$/) left = i + 1
+        if (tok[i] == "orElse" && left) { order(left, i); left = i + 1 }
+        if (tok[i] == "=") first = i
+    }
+    for (i = first; i <= n; i++) {
+        if (i > 1 && tok[i - 1] ~ /^([.]|Type)$/) continue
+        if (tok[i] ~ /^(done|seated)$/) value(i + 1)
+        if (tok[i] == "answer" && tok[i + 1] !~ /^[:=]$/) value(closing(i + 1) + 1)
+        if (tok[i] ~ /^[0-9]+$/) number("constant", i)
+        if (tok[i] in news) each(i)
     }
 }
-function mutant(kind, new) { print kind "\t" name "\t" FNR "\t" FNR " " k " " size " " new }
-function in_scope(w) { return w ~ /^_|^[0-9]/ || index(scope " ", " " w " ") || index(scope " ", " _" w "_ ") }
-function each(kind, news,    m, other, j) { m = split(news, other, " "); for (j = 1; j <= m; j++) if (in_scope(other[j])) mutant(kind, other[j]) }
-function token() {
-    if (word ~ /^[0-9]+$/) {
-        mutant("constant", sprintf("%.0f", word + 1))
-        if (word > 0) mutant("constant", sprintf("%.0f", word - 1))
-        if (word > 1) mutant("constant", "0")
-    }
-    else if (word == "+") each("operator", "- *")
-    else if (word == "-") each("operator", "+")
-    else if (word == "*") each("operator", "+ ^")
-    else if (word == "/") each("operator", "* %")
-    else if (word == "%") each("operator", "/")
-    else if (word == "^") each("operator", "*")
-    else if (word == "ltb") each("test", "leb eqb")
-    else if (word == "leb") each("test", "ltb eqb")
-    else if (word == "eqb") each("test", "leb ltb")
-    else if (word == "||") each("test", "&&")
-    else if (word == "&&") each("test", "||")
-    else if (word == "min") each("operator", "_+_")
-    else if (word == "true") each("constant", "false")
+function in_scope(t) { return index(scope, " " t " ") || index(scope, " _" t "_ ") }
+# two neighbours in a chain of numbers exchanged, the first from `left` on
+function order(left, i,    k) {
+    for (k = closing(i + 1); k < n && tok[k + 1] != "orElse"; k = closing(k + 1));
+    exchange("order", left, i - 1, i + 1, k)
+}
+# the value of a call: a number for its neighbours, anything else for 0 and for one more
+function value(i) {
+    if (tok[i] ~ /^[0-9]+$/) { number("value", i); return }
+    replace("value", i, closing(i), "0")
+    replace("value", i, closing(i), "(" span(i, closing(i)) " + 1)")
 }

@@ -1,68 +1,45 @@
-# Judges the mutants of one run: awk -f judge.awk ROWS LOG. ROWS has lines RUN, ID, FILE, KIND, FUNCTION, ..; LOG is what `rt dev` said.
-# Prints lines ID, OUTCOME, ERROR. The outcomes:
-#   refused      a fact fails, or a search finds no proof: the first error in the function's proof
-#   shape, fact  the first error says that the proof file no longer fits the code (a need that is not there, a path to a fact that leads elsewhere),
-#                and a later one that a fact fails
-#   shape        no error says that a fact fails
-#   survived     the function is proved
-#   unread       the run ended before the prover: a mutant in it is no program
-#   open         the prover could not tell
+# Judges the mutants of one run: awk -f judge.awk EQUAL ROWS LOG, where LOG is what `rt dev` said. Prints each row with OUTCOME and ERROR before it.
+# refused: a fact fails, or a search finds no proof; shape, fact: first the proof file no longer fits the code, and then a fact fails; shape: only the
+# first; survived: it is proved, alone, and where EQUAL names it the heading there; no program: the compiler refuses it, and it does not count;
+# open: the prover could not tell; again, alone: to be tried again, with the others or alone.
 BEGIN { FS = OFS = "\t" }
-FILENAME == ARGV[1] { id[++n] = $2; fn[n] = $5; next }
-
-/^fn / {
-    name = $0
-    sub(/^fn /, "", name)
-    verdict = name
-    sub(/: .*/, "", name)
-    sub(/^[^ ]*: /, "", verdict)
-    sub(/.*::/, "", name)
-    said[name] = verdict
+FNR == 1 { part++ }
+part == 1 && /^\[/ { heading = substr($0, 2, length($0) - 2) }
+part == 1 { known[$0] = heading; next }
+part == 2 {
+    row[++n] = $0
+    fn[n] = $4
+    key[n] = $5 FS $4 FS $6 FS $8
+    sub(/\t +/, FS, key[n])
+    for (k = 7; k < NF; k += 2) line[$5 ":" $k ":"] = n
+    next
 }
+/^fn / { name = $0; gsub(/^fn |: .*/, "", name); sub(/.*::/, "", name); said[name] = $0 }
+match($0, /crates\/[a-z]*\/src\/[a-z_]*\.rt:[0-9]*:/) && (place = substr($0, RSTART, RLENGTH)) in line { named[line[place]]; again = 1 }
 /: error/ {
-    place = $0
-    sub(/:[0-9]+:[0-9]+: error.*/, "", place)
-    text = $0
-    sub(/^.*:[0-9]+:[0-9]+: error[^:]*: /, "", text)
-    if (place ~ /\/proofs\/.*\/Proof\.antt$/) {
-        sub(/\/Proof\.antt$/, "", place)
-        sub(/.*\//, "", place)
-    } else {
-        place = "elsewhere"
-    }
-    note_error(place)
-    note_error("any")
+    place = match($0, /[a-z_0-9]*\/Proof\.antt:/) ? substr($0, RSTART, RLENGTH - 12) : ""
+    sub(/^.*:[0-9]+:[0-9]+: error[^:]*: /, "")
+    note(place)
+    note("any")
 }
-/^logic=proved/ { all = "proved" }
-/^logic=not-proved/ { all = "not proved" }
+/^logic=/ { all = /^logic=proved/ ? "proved" : "not proved" }
 /no verdict/ { all = "open" }
 
-function note_error(place) {
-    if (!(place in first)) first[place] = text
-    if (!(place in fact) && !shape(text) && text !~ /was not admitted/) fact[place] = text
+function note(place) {
+    if (!(place in first)) first[place] = $0
+    if (!(place in fact) && !shape($0) && !/was not admitted/) fact[place] = $0
 }
-function shape(text) {
-    return text ~ /has no `(Need|InvT|MeasureT)-/ || text ~ /has no field/ || text ~ /no field `/ || text ~ /(more|fewer|too many|too few) arguments/ || text ~ /is not a (function|record)/ || text ~ /expects? [0-9]+ arguments/ || text ~ /is not expected here/ || text ~ /this pattern needs a function/ || text ~ /: record `[^`]*`$/ || text ~ /projection/
+function shape(error) {
+    return error ~ /has no `(Need|InvT|MeasureT)-|has no field|no field `|(more|fewer|too many|too few) arguments|is not a (function|record)/ ||
+        error ~ /expects? [0-9]+ arguments|expected type `tie\.|is not expected here|this pattern needs a function|: record `[^`]*`$|projection/
 }
-
-END {
-    for (i = 1; i <= n; i++) {
-        f = fn[i]
-        if (all == "") { print id[i], "unread", first["any"]; continue }
-        if (f ~ /^const /) {
-            place = "any"
-            v = all
-        } else {
-            place = f
-            v = said[f]
-        }
-        e = first[place]
-        if (v == "proved" && (n > 1 || all == "proved")) print id[i], "survived", ""
-        else if (v ~ /could not tell/ || v == "open") print id[i], "open", e
-        else if (v !~ /not proved|no proof/) print id[i], "open", "no line for this function: " v
-        else if (e == "") print id[i], "refused", "no proof is found"
-        else if (!shape(e)) print id[i], "refused", e
-        else if (place in fact) print id[i], "shape, fact", fact[place]
-        else print id[i], "shape", e
-    }
+function outcome(i, place, says) {
+    error = first[place]
+    if (all == "") return n == 1 || i in named ? "no program" : again ? "again" : "alone"
+    if (says ~ /proved$/ && says !~ /not proved$/) return n > 1 ? "alone" : all != "proved" ? "open" : key[i] in known ? known[key[i]] : "survived"
+    if (says !~ /not proved|no proof/) return "open"
+    if (!shape(error)) return "refused"
+    if (place in fact) error = fact[place]
+    return place in fact ? "shape, fact" : "shape"
 }
+END { for (i = 1; i <= n; i++) { o = fn[i] ~ /^const / ? outcome(i, "any", all) : outcome(i, fn[i], said[fn[i]]); print o, substr(error, 1, 300), row[i] } }
