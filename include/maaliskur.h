@@ -19,7 +19,9 @@
  * refused with a number, and then it has changed nothing, but for one case: an audit that is refused with 9 has cleared
  * the first used / 4 words of its map. (Used 4, the words 0, 0, 4294967295, 4294967295, heads and handles 0, and the
  * map 5, 6: it answers 9, and the map is 0, 6.) That, and what each call writes, is proved of the functions
- * behind this header. Not proved, and the caller's to see to:
+ * behind this header. Of the blocks in the pool a call judges no more than the handles that it names, and the head of the
+ * class that it needs a block of. That two slots share a block, or that blocks overlap or are lost, the audit sees; a call
+ * may be done all the same. Not proved, and the caller's to see to:
  *
  * - A pointer is not null, also where its length is 0, is aligned as uint32_t is, and has as many words behind it as
  *   the length after it says.
