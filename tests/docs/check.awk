@@ -1,6 +1,6 @@
 # Checks the documents. It is given, each behind an assignment to `kind`: the index (what declared.awk and rests.awk list, the files and programs there
-# are, and lines of the specs), paper 01, docs/DEMANDS.md, docs/PROVED.md, docs/ANSWER.md, docs/BELIEVE.md, and the pages of which only links and commands
-# are checked. A check that fails prints FILE:LINE: and what is missing. The last line is 'N passed, M failed'.
+# are, lines of the specs, and the widest line of each source), paper 01, docs/DEMANDS.md, docs/PROVED.md, docs/ANSWER.md, docs/BELIEVE.md, and the pages
+# of which only links and commands are checked. A check that fails prints FILE:LINE: and what is missing. The last line is 'N passed, M failed'.
 
 BEGIN { FS = "\t" }
 
@@ -44,6 +44,7 @@ function index_line() {
     else if ($1 == "program") is_program[$2] = 1
     else if ($1 == "test") is_test[$2] = 1
     else if ($1 == "line") is_line[$2] = 1
+    else if ($1 == "width") check($3 <= 160, $2, "a line of " $3 " characters, over 160")
     else if ($1 == "antt") { if (antt[$2] != "pub") antt[$2] = $3 }
     else if ($1 == "text") wording[$2, $3] = $4
     else if ($1 == "kind") { if ($3 == "definition") is_definition[$2] = 1 }
