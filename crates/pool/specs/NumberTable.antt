@@ -29,7 +29,7 @@ pub record Judged : Type 0 where
   pub outside : Bool
   -- "slots clash"
   pub clash : Bool
-  -- it gives a list of `old` elements `new`; 0 and 0 where it gives none another length
+  -- it gives a list of `old` elements `new`; 0 and 0 for a call that never needs a block, `clear` and the pool's `clear` too
   pub old : ℕ
   pub new : ℕ
 

@@ -66,7 +66,7 @@ infix 3 _becomes_
 abbrev pub _becomes_ : ℕ → ℕ → Lengths
 old becomes new = record { old = old; new = new }
 
--- What a call does to the length of a list, where the lists are ls. Of a call that makes no list longer or shorter 0 becomes 0.
+-- What a call does to the length of a list, where the lists are ls. Of a call that makes no list longer or shorter 0 becomes 0, and of the pool's `clear`.
 unfoldable pub lengths : Call → List (List ℕ) → Lengths
 lengths (fromSlice slot xs) ls = 0 becomes length xs
 lengths (isEmpty slot) ls = 0 becomes 0
