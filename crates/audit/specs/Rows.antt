@@ -298,7 +298,8 @@ deeds =
     (clear 0 ∷ truncate 0 0 ∷ remove 0 0 ∷ swapRemove 0 0 ∷ [])
     -- "Pool `clear` sets used, heads and all handles to 0 and touches no pool word (used and heads within limits are not required for it"
     ++ leaving lists (world 0 (headed 0 0 0) (spare ++ three ++ four ++ one) (replicate 4 0)) (clearPool ∷ [])
-    ++ leaving (world 3 (headed 9 9 9) (8 ∷ 8 ∷ []) (5 ∷ [])) (world 0 (headed 0 0 0) (8 ∷ 8 ∷ []) (0 ∷ [])) (clearPool ∷ [])
+    -- "15 heads, one a class"
+    ++ leaving (world 3 (headed 9 9 9) (8 ∷ 8 ∷ []) (5 ∷ [])) (world 0 (replicate 15 0) (8 ∷ 8 ∷ []) (0 ∷ [])) (clearPool ∷ [])
     -- `insert` writes nothing behind its list
     ++ leaving (world 8 (headed 0 0 0) ((2 ∷ 7 ∷ 8 ∷ M ∷ []) ++ one) (1 ∷ 5 ∷ [])) (world 8 (headed 0 0 0) ((3 ∷ 6 ∷ 7 ∷ 8 ∷ []) ++ one) (1 ∷ 5 ∷ []))
     (insert 0 0 6 ∷ [])
