@@ -31,7 +31,6 @@ FNR == 1 { scope = "" }
         if (tok[i] in news) each(i)
     }
 }
-function in_scope(t) { return index(scope, " " t " ") || index(scope, " _" t "_ ") }
 # two neighbours in a chain of numbers exchanged, the first from `left` on
 function order(left, i,    k) {
     for (k = closing(i + 1); k < n && tok[k + 1] != "orElse"; k = closing(k + 1));
