@@ -9,18 +9,8 @@ BEGIN {
 FNR == 1 { state = "outside" }
 { sub(/\/\/.*/, "") }
 state != "clause" && /^ *(requires|ensures|ghost) *[{]/ { around = state; state = "clause"; depth = 0 }
-state == "clause" {
-    depth += gsub(/[{]/, "") - gsub(/[}]/, "")
-    if (depth == 0) state = around
-    next
-}
-state == "outside" && /^ *(pub )?const / {
-    name = $0
-    gsub(/^ *(pub )?|:.*/, "", name)
-    n = own = open = 0
-    tokens($0, index($0, "=") + 1)
-    mutants()
-}
+state == "clause" { depth += gsub(/[{]/, "") - gsub(/[}]/, ""); if (depth == 0) state = around; next }
+state == "outside" && /^ *(pub )?const / { name = $0; gsub(/^ *(pub )?|:.*/, "", name); n = own = open = 0; tokens($0, index($0, "=") + 1); mutants() }
 state == "outside" && /^ *(pub )?fn / { state = "signature"; signature = "" }
 state == "signature" { signature = signature " " $0 }
 state == "signature" && /[{] *$/ { read_signature(signature); state = "body"; depth = 1; n = 0; open = FNR; next }
@@ -47,7 +37,6 @@ function read_signature(s,    parts, k, m) {
     }
     count[name] = own
 }
-function in_scope(t) { return 1 }
 function is_name(t) { return t ~ /^[A-Za-z_]/ && t !~ /^(return|if|while|loop|else|let|mut|as|in|for|true|false)$/ }
 function is_operand(t) { return is_name(t) || t ~ /^[0-9]/ }
 function mutants(    i, t, d) {

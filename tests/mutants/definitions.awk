@@ -4,9 +4,10 @@ BEGIN {
     word = "^[^ (){};,.]+"
     others("operator", "+ - *,- +,* + ^,/ * %,% /,^ *,min _+_")
     others("test", "ltb leb eqb,leb ltb eqb,eqb leb ltb,|| &&,&& ||")
-    others("constant", "true false")
+    others("constant", "true false,false true")
 }
-FNR == 1 { scope = "" }
+FNR == 1 { scope = ""; proofs = 0 }
+/^-- THE RULES FOLLOW/ { proofs = 1 } # from here on NumberTable proves
 /^use / { scope = scope " " $0 " "; gsub(/[{},]/, " ", scope) }
 /^ *((unfoldable|abbrev) (pub )?[^ ]+ .*:|(pub )?(record|data) )/ {
     name = $0
@@ -15,7 +16,7 @@ FNR == 1 { scope = "" }
     n = left = 0
     next
 }
-!/^ *(--|unfolding )|^(use|infix|module|open)|^ *$/ {
+!proofs && !/^ *(--|unfolding )|^(use|infix|module|open)|^ *$/ {
     first = n + 1
     tokens($0, 1)
     for (i = first; i <= n; i = closing(i) + 1) {
@@ -31,7 +32,6 @@ FNR == 1 { scope = "" }
         if (tok[i] in news) each(i)
     }
 }
-function in_scope(t) { return index(scope, " " t " ") || index(scope, " _" t "_ ") }
 # two neighbours in a chain of numbers exchanged, the first from `left` on
 function order(left, i,    k) {
     for (k = closing(i + 1); k < n && tok[k + 1] != "orElse"; k = closing(k + 1));
@@ -39,7 +39,6 @@ function order(left, i,    k) {
 }
 # the value of a call: a number for its neighbours, anything else for 0 and for one more
 function value(i) {
-    if (tok[i] ~ /^[0-9]+$/) { number("value", i); return }
-    replace("value", i, closing(i), "0")
-    replace("value", i, closing(i), "(" span(i, closing(i)) " + 1)")
+    if (tok[i] ~ /^[0-9]+$/) number("value", i)
+    else { replace("value", i, closing(i), "0"); replace("value", i, closing(i), "(" span(i, closing(i)) " + 1)") }
 }

@@ -18,10 +18,7 @@ function tokens(s, k,    t) {
 }
 # The token that closes the bracket at i, or i itself; the last one if none does.
 function closing(i,    k, depth) {
-    for (k = i; k <= n; k++) {
-        depth += (tok[k] ~ /^[({[]$/) - (tok[k] ~ /^[)}\]]$/)
-        if (depth == 0) return k
-    }
+    for (k = i; k <= n; k++) if ((depth += (tok[k] ~ /^[({[]$/) - (tok[k] ~ /^[)}\]]$/)) == 0) return k
     return n
 }
 function span(i, j) { return row[i] == row[j] ? substr(text[row[i]], column[i], column[j] + length(tok[j]) - column[i]) : "" }
@@ -51,6 +48,7 @@ function exchange(kind, a, b, c, d) { # the tokens a to b with c to d behind the
     put(c, d, span(a, b))
     replace(kind, a, b, span(c, d))
 }
+function in_scope(t) { return scope == "" || index(scope, " " t " ") || index(scope, " _" t "_ ") } # for code anything
 function each(i,    m, new, k) { # a token for those that may take its place
     m = split(news[tok[i]], new, " ")
     for (k = 1; k <= m; k++) if (in_scope(new[k])) replace(kind_of[tok[i]], i, i, new[k])
