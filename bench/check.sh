@@ -11,6 +11,7 @@ set -u
 cd "$(dirname "$0")/.." || exit 2
 . tests/scripts/shared.sh
 script bench/check.sh "$@"
+crates=$(sed -n 's/^\([a-z_0-9]*\):.*/\1/p' crates.txt)
 for name; do grep -q "^$name:" crates.txt || unknown "$name"; done
 command -v rt >/dev/null || die "no rt on the path: the Rattle kit's command, which proves and builds"
 mkdir -p target || die "cannot make target"

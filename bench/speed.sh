@@ -10,20 +10,18 @@
 # It proves and builds the archive, builds the benchmark with the cargo at hand, and runs it, on x86-64 only. As root it installs what is
 # missing of Debian's packages. POSIX sh; needs rt on the path.
 set -u
-
-die() { printf 'bench/speed.sh: %s\n' "$*" >&2; exit 2; }
-say() { printf 'bench/speed.sh: %s\n' "$*" >&2; }
+cd "$(dirname "$0")/.." || exit 2
+. tests/scripts/shared.sh
+script bench/speed.sh "$@"
 have() { command -v "$1" >/dev/null 2>&1; }
 
-cd "$(dirname "$0")/.." || die "cannot enter the repository"
 mode=times only='' processes=7 milliseconds=100
 for word; do
     case $word in
-    -h | --help) sed -n '2,/^[^#]/s/^# \{0,1\}//p' bench/speed.sh; exit ;;
     --quick) processes=1 milliseconds=20 ;;
     --counts) mode=counts ;;
     --audit) only='audit ' ;;
-    '' | 0* | *[!0-9]*) die "no word '$word' (bench/speed.sh --help tells which there are)" ;;
+    '' | 0* | *[!0-9]*) unknown "$word" ;;
     *) processes=$word ;;
     esac
 done
