@@ -1,16 +1,14 @@
--- `lent::lends_none` is safe and ends. The pool keeps its length. The measure is the number of slots that are left. Assumes nothing.
+-- `lent::lends_none` is safe and ends. The measure is the number of slots that are left. Assumes nothing.
 use borrow.Author.Needs.{needs}
-use Prim.Native.Nat.{_-_}
-use lib.ListN.{length}
-use mathlib.Core.Path.{_≡_}
+use Prim.Native.Nat.{_≤_, _-_}
 use Rattle.lent.proofs.lends_none.Statement.{statement}
 use Rattle.lent.proofs.lends_none.Tie as tie
 
 abbrev Inv-loop : tie.InvT-loop
-Inv-loop state pool₀ handles from to slot₀ t7 pool slot = length pool ≡ length pool₀
+Inv-loop used pool handles from to slot₀ t7 slot = from ≤ slot
 
 abbrev μ-loop : tie.MeasureT-loop
-μ-loop state pool₀ handles from to slot₀ t7 pool slot = to - slot
+μ-loop used pool handles from to slot₀ t7 slot = to - slot
 
 loop-holds : tie.Need-loop-holds Inv-loop μ-loop
 loop-holds c = search needs
@@ -20,9 +18,6 @@ slice-aggregate-lends c = search needs
 
 lends-requires : tie.Need-lends-requires Inv-loop μ-loop
 lends-requires c κs = search needs
-
-same-length : tie.Need-same-length Inv-loop μ-loop
-same-length c = search needs
 
 returns : tie.Need-returns Inv-loop μ-loop
 returns c = search needs
@@ -36,9 +31,6 @@ loop-less c = search needs
 loop-again : tie.Need-loop-again Inv-loop μ-loop
 loop-again c = search needs
 
-same-length-2 : tie.Need-same-length-2 Inv-loop μ-loop
-same-length-2 c = search needs
-
 returns-2 : tie.Need-returns-2 Inv-loop μ-loop
 returns-2 c = search needs
 
@@ -51,10 +43,8 @@ lends-none-spec =
     loop-holds
     slice-aggregate-lends
     lends-requires
-    same-length
     returns
     add-slot
     loop-less
     loop-again
-    same-length-2
     returns-2)

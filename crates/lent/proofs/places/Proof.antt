@@ -1,12 +1,12 @@
--- `lent::number` is safe and ends. The index stays within the pool, which keeps its length, and fits a word. The measure is what is left of the
+-- `lent::places` is safe and ends. The index stays within the pool, which keeps its length, and fits a word. The measure is what is left of the
 -- pool. Assumes nothing.
 use borrow.Author.Needs.{needs}
 use native.Mathlib.Omega.{arith}
 use Prim.Native.Nat.{_≤_, _-_}
 use lib.ListN.{length, length-set}
 use mathlib.Core.Path.{_≡_}
-use Rattle.lent.proofs.number.Statement.{statement}
-use Rattle.lent.proofs.number.Tie as tie
+use Rattle.lent.proofs.places.Statement.{statement}
+use Rattle.lent.proofs.places.Tie as tie
 
 abbrev Inv-loop : tie.InvT-loop
 Inv-loop pool₀ i₀ pool i = (i ≤ length pool₀) × (length pool ≡ length pool₀)
@@ -41,8 +41,8 @@ same-length c = search needs
 returns : tie.Need-returns Inv-loop μ-loop
 returns c = search needs
 
-pub number-spec : {M : Type 1} → statement M
-number-spec =
+pub places-spec : {M : Type 1} → statement M
+places-spec =
     tie.close
     (tie.spec
     Inv-loop
