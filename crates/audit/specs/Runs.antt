@@ -20,7 +20,8 @@ partOf o slot = part (o .answer .state) (o .words) (o .handles) slot
 
 -- What is reached from a cleared pool: the words, the table and the state before the clearing may be anything within the limits.
 -- Each call is given what the last left, whatever that answered. A call that reads is a step as any other; `part` and `as_slice` need none: they are
--- lent pool and table to read, and hand no state back.
+-- lent pool and table to read, and hand no state back. What is written through `as_mut_slice` is `write`, a step for each word; that it writes nothing itself
+-- is in no contract (docs/PROVED.md).
 pub data Reached : Outcome → Type 0 where
   start : (st : ListPool) (ws hs : List ℕ) → length ws ≤ poolLimit → length hs ≤ tableLimit → Reached (called clearPool st ws hs)
   step : {o : Outcome} (call : Call) → Reached o → Reached (called call (o .answer .state) (o .words) (o .handles))

@@ -1,5 +1,8 @@
 -- Paper 01's table of numbers, row by row, apart from the calls' own rules: when a number applies to a call, and in which order the numbers are
 -- asked. And the theorem that the rules follow it: of every call, on every state, "The lowest number that applies is given".
+-- The tests themselves of 1, 3, 6 and 7 (the limits, a sound handle, whether a block is needed, a bad head, no room) are those of Numbers.antt, by which the
+-- rules judge too, so the theorem cannot find these wrong. What stands here apart is which of them a call is judged by, of which slots and lengths, its
+-- positions and clashes, and the order.
 -- Throughout `ws` is the pool's words and `hs` the table's handles.
 use Prim.Native.Nat.{ℕ, _+_, _-_, _≤_, min}
 use mathlib.Core.Path.{_≡_, refl, sym, ap, _∙_}
