@@ -39,7 +39,7 @@ element-lies {st} {ws} {hs} W C slot p l =
 
 -- The insurer's question, as a theorem. If the audit answers 0, then there is a way to cut the used words into live and free blocks, by `cut-unique` only
 -- one, and in it for every slot of the table `len` answers a count n, and for each of the n positions p `get` answers the word at handle + p, which
--- belongs to that slot: n different words, in the block of that slot, and in that of no other slot and of no chain.
+-- belongs to that slot: n different places, in the block of that slot, and in that of no other slot and of no chain.
 pub count-belongs : (st : ListPool) (ws hs map : List ℕ) → length (st .heads) ≡ classCount → audit st ws hs map .answer .number ≡ 0
     → (fs : List (List ℕ)) × Cut st ws hs fs
     × ((slot : ℕ) → slot < length hs

@@ -185,6 +185,11 @@ causes =
     ++ refusing 6 (world 4 (headed 5 1 0) (replicate 16 0) (0 ∷ [])) (push 0 9 ∷ growAt 0 0 4 ∷ [])
     -- 7: a length over 65,535, whatever the heads
     ++ refusing 7 badHeads (growAt 0 0 65533 ∷ growAt 2 0 65536 ∷ [])
+    -- 1 alone: used not a multiple of 4, whatever it leaves; used above the pool's length
+    ++ refusing 1 (world 9 (headed 0 0 0) twelve six) (isValid 0 ∷ isValid 2 ∷ [])
+    ++ refusing 1 (world 10 (headed 0 0 0) twelve six) (isValid 0 ∷ isValid 2 ∷ [])
+    ++ refusing 1 (world 11 (headed 0 0 0) twelve six) (isValid 0 ∷ isValid 2 ∷ [])
+    ++ refusing 1 (world 16 (headed 0 0 0) twelve six) (isValid 0 ∷ isValid 2 ∷ [])
 
 -- A pool or a table over its limit: 1, before 2, and for the pool's clear; at the limits, not.
 unfoldable pub limits : List Row
@@ -303,6 +308,20 @@ deeds =
     -- `insert` writes nothing behind its list
     ++ leaving (world 8 (headed 0 0 0) ((2 ∷ 7 ∷ 8 ∷ M ∷ []) ++ one) (1 ∷ 5 ∷ [])) (world 8 (headed 0 0 0) ((3 ∷ 6 ∷ 7 ∷ 8 ∷ []) ++ one) (1 ∷ 5 ∷ []))
     (insert 0 0 6 ∷ [])
+    -- an empty list into another empty slot
+    ++ giving 0 (world 0 (headed 0 0 0) [] (0 ∷ 0 ∷ [])) (take 0 1 ∷ deepClone 0 1 ∷ [])
+    -- one class up from a block that is not full: its excess words are not copied
+    ++ leaving roomy
+    (world 16 (headed 13 0 0) (three ++ (4 ∷ 14 ∷ 31 ∷ 32 ∷ 33 ∷ 34 ∷ 35 ∷ 36 ∷ []) ++ (0 ∷ 0 ∷ M ∷ M ∷ [])) (1 ∷ 5 ∷ 0 ∷ [])) (growAt 1 1 3 ∷ [])
+    -- two classes up
+    ++ leaving (world 4 (headed 0 0 0) (three ++ replicate 16 5) (1 ∷ []))
+    (world 20 (headed 1 0 0) ((0 ∷ 0 ∷ 8 ∷ 9 ∷ []) ++ (8 ∷ 7 ∷ 8 ∷ 9 ∷ 1 ∷ 2 ∷ 3 ∷ 4 ∷ 5 ∷ []) ++ replicate 7 M) (5 ∷ []))
+    (extend 0 (1 ∷ 2 ∷ 3 ∷ 4 ∷ 5 ∷ []) ∷ [])
+    -- a block of class 1 goes on the chain of class 1
+    ++ leaving lists (world 20 (headed 1 9 0) (spare ++ three ++ (0 ∷ 0 ∷ 11 ∷ 12 ∷ 13 ∷ M ∷ M ∷ M ∷ []) ++ one) (5 ∷ 0 ∷ 0 ∷ 17 ∷ []))
+    (clear 1 ∷ truncate 1 0 ∷ [])
+    -- all heads become 0
+    ++ leaving (world 3 (replicate 15 9) [] (5 ∷ [])) (world 0 (replicate 15 0) [] (0 ∷ [])) (clearPool ∷ [])
 
 -- THE ORDER OF READING AND WRITING, WHERE BLOCKS OVERLAP
 

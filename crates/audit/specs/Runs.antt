@@ -14,7 +14,7 @@ use Rattle.sound.specs.EveryCall.{SoundAfter, its-lists, call-keeps-sound}
 use Rattle.audit.specs.Audit.{audit}
 use Rattle.audit.specs.Exact.{audit-answer, audit-exact}
 
--- the part of the pool that `as_mut_slice` gives of a slot, after a call
+-- the part of the pool that `as_mut_slice` gives of a slot, at some point of a sequence
 abbrev pub partOf : Outcome → ℕ → Part
 partOf o slot = part (o .answer .state) (o .words) (o .handles) slot
 

@@ -246,6 +246,12 @@ need-over st ws old new h = rw (ne-eqb new 0 (omega arith), lt-ltb longest new h
     go true = refl
     go false = refl
 
+-- "moves when the class changes": a list that has elements, and is left with some, needs a block exactly where its class changes
+pub needs-where-class-changes : (old new : ℕ) → 0 < old → 0 < new → new ≤ longest → needsBlock old new ≡ not (eqb (classOf old) (classOf new))
+unfolding needsBlock
+needs-where-class-changes old new some left short =
+    rw (ne-eqb new 0 (omega arith), ne-eqb old 0 (omega arith), le-ltb longest new short)
+
 -- THE NUMBERS OF CALLS: what a call may rely on that its number does not refuse
 
 pub at-facts : (used : ℕ) (ws hs : List ℕ) (slot position : ℕ) → atNumber used ws hs slot position ≡ 0 → (Entered used ws hs slot) × (HasAt ws hs slot position)
