@@ -115,6 +115,17 @@ static void refused(void)
     HOLDS(map[0] == 0);
 }
 
+/* The header's example: a block that is in no list and on no chain. Of the map the audit clears a word for each group that is used. */
+static void lost(void)
+{
+    uint32_t words[4] = {0, 0, UINT32_MAX, UINT32_MAX}, slots[1] = {0}, groups[2] = {5, 6};
+    struct maaliskur_state four = {4, {0}};
+    struct maaliskur_answer a = maaliskur_audit(four, words, 4, slots, 1, groups, 2);
+
+    HOLDS(a.number == MAALISKUR_NOT_SOUND && a.value == 0 && a.state.used == 4);
+    HOLDS(groups[0] == 0 && groups[1] == 6);
+}
+
 /* Classes and sizes, and where 32 bits end. */
 static void classes(void)
 {
@@ -128,6 +139,7 @@ int main(void)
 {
     done();
     refused();
+    lost();
     classes();
     return failed;
 }
