@@ -6,7 +6,7 @@ use pool::ListPool;
 // The code of a new pool: arrays of other lengths are lent, and the pool is cleared; its words stay.
 pub const NEW_POOL: u32 = 0;
 
-// Is there a call with this code that takes n arguments?
+// Returns whether there is a call with this code that takes n arguments.
 pub fn takes(code: u32, n: usize) -> bool {
     match code {
         21 => n == 0,
@@ -19,7 +19,7 @@ pub fn takes(code: u32, n: usize) -> bool {
     }
 }
 
-// A length as a value; one that does not fit 32 bits is the largest.
+// Returns a length as a value, and the largest value for one that does not fit 32 bits.
 fn value_of(n: usize) -> u32 {
     if n > 4294967295 {
         return 4294967295;
@@ -27,7 +27,7 @@ fn value_of(n: usize) -> u32 {
     n as u32
 }
 
-// A call that answers with a part of the pool, of which n words are as they should: done, with the state as it was.
+// Answers for a call that gives a part of the pool, of which n words are as they should: done, with the state as it was.
 fn done(state: ListPool, n: usize) -> Answer {
     Answer {
         number: 0,
@@ -36,7 +36,7 @@ fn done(state: ListPool, n: usize) -> Answer {
     }
 }
 
-// How many elements a list has, where that is not as many as the Rust's; else how many there are before the first that differs.
+// Returns how many elements a list has, where that is not as many as the Rust's; else how many there are before the first that differs.
 fn alike(ours: &[u32], rust: &[u32]) -> usize {
     if ours.len() != rust.len() {
         return ours.len();

@@ -13,7 +13,7 @@ const HANDLES: usize = 16;
 
 pub const WORDS: usize = 32;
 
-// Writes the changes of a line, each a run's first cell, its length and its word, to the cells; false where one is not whole or not in them.
+// Writes the changes of a line, each a run's first cell, its length and its word, to the cells. Returns false where one is not whole or not in them.
 pub fn changed(changes: &[u32], cells: &mut [u32]) -> bool {
     let mut i = 0;
     while i < changes.len() {
@@ -52,7 +52,7 @@ fn equal(what: u32, ours: u32, rust: u32) -> Finding {
     findings::nothing()
 }
 
-// The audit's number for the pool as it is.
+// Audits the pool as it is, and returns the number.
 fn audited(state: ListPool, pool: &[u32], handles: &[u32]) -> u32 {
     let mut map = [0u32; POOL_LIMIT / 4];
     let answer = audit::audit(state, pool, handles, &mut map);

@@ -41,12 +41,12 @@ pub struct Finding {
     pub rust: u32,
 }
 
-// Nothing was found.
+// Returns that nothing was found.
 pub fn nothing() -> Finding {
     fault(0)
 }
 
-// A fault of the list.
+// Returns a fault of the list.
 pub fn fault(what: u32) -> Finding {
     Finding {
         what,
@@ -56,7 +56,7 @@ pub fn fault(what: u32) -> Finding {
     }
 }
 
-// A difference from the Rust.
+// Returns a difference from the Rust.
 pub fn differs(what: u32, at: usize, ours: u32, rust: u32) -> Finding {
     Finding {
         what,

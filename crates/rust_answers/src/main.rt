@@ -44,7 +44,7 @@ struct Stepped {
     next: usize,
 }
 
-// The bench as it was, with a fault of the list.
+// Returns the bench as it was, with a fault of the list.
 fn faulty(bench: Bench, fault: u32) -> Turn {
     Turn {
         bench,
@@ -89,7 +89,7 @@ fn made(
     }
 }
 
-// The words and slots that are lent at a call: those of its arguments for a new pool, else those of before.
+// Returns the words and slots that are lent at a call: those of its arguments for a new pool, else those of before.
 fn lent(bench: Bench, code: u32, arguments: &[u32]) -> Bench {
     if code != calls::NEW_POOL {
         return bench;

@@ -1,6 +1,6 @@
 // Words and parts of a slice, for any index whatever.
 
-// The word at i, and 0 past the end.
+// Returns the word at i, and 0 past the end.
 pub fn word(words: &[u32], i: usize) -> u32 {
     if i < words.len() {
         return words[i];
@@ -8,7 +8,7 @@ pub fn word(words: &[u32], i: usize) -> u32 {
     0
 }
 
-// The words from `at` on, and none where that is past the end.
+// Returns the words from `at` on, and none where that is past the end.
 pub fn from(words: &[u32], at: usize) -> &[u32] {
     if at > words.len() {
         return &words[0..0];
@@ -16,7 +16,7 @@ pub fn from(words: &[u32], at: usize) -> &[u32] {
     &words[at..]
 }
 
-// The first n words, and all where there are fewer.
+// Returns the first n words, and all where there are fewer.
 pub fn front(words: &[u32], n: usize) -> &[u32] {
     if n > words.len() {
         return words;

@@ -21,7 +21,7 @@ pub struct Line {
     pub fault: u32,
 }
 
-// The digit that a byte is, and 10 where it is none.
+// Returns the digit that a byte is, and 10 where it is none.
 fn digit(b: u8) -> u64
     ensures { λ r. ⌜ r ≤ 10 ⌝ }
 {
@@ -62,7 +62,7 @@ fn read_number(text: &[u8], at: usize) -> Number
     }
 }
 
-// A line that is wrong, after which the text ends.
+// Returns a line that is wrong, after which the text ends.
 fn wrong(text: &[u8], fault: u32) -> Line
     ensures { λ r. ⌜ (r .count ≡ 0) × (r .next ≡ length (now (text .entry))) ⌝ }
 {
