@@ -1,5 +1,5 @@
 # Checks the documents. It is given, each behind an assignment to `kind`: the index (what declared.awk and rests.awk list, the files and programs there
-# are, lines of the specs, and the widest line of each source), paper 01, docs/DEMANDS.md, docs/PROVED.md, docs/ANSWER.md, docs/BELIEVE.md, and the pages
+# are, and the widest line of each source), paper 01, docs/DEMANDS.md, docs/PROVED.md, docs/ANSWER.md, docs/BELIEVE.md, and the pages
 # of which only links and commands are checked. A check that fails prints FILE:LINE: and what is missing. The last line is 'N passed, M failed'.
 
 BEGIN { FS = "\t" }
@@ -19,6 +19,7 @@ END {
     functions()
     edits()
     lending()
+    check(theorems > 0, "docs/ANSWER.md:1", "no theorem is printed as it is stated")
     belief()
     sentences()
     print passed " passed, " failed + 0 " failed"
@@ -43,10 +44,11 @@ function index_line() {
     if ($1 == "file") is_file[$2] = 1
     else if ($1 == "program") is_program[$2] = 1
     else if ($1 == "test") is_test[$2] = 1
-    else if ($1 == "line") is_line[$2] = 1
+    else if ($1 == "stated") stated[$2, $3] = stated[$2, $3] "\n" $4
+    else if ($1 == "unread") check(0, $2, $3 ", which these checks do not read")
     else if ($1 == "width") check($3 <= 160, $2, "a line of " $3 " characters, over 160")
     else if ($1 == "antt") { if (antt[$2] != "pub") antt[$2] = $3 }
-    else if ($1 == "text") wording[$2, $3] = $4
+    else if ($1 == "text") { wording[$2, $3] = $4; wordings[$2, $3]++ }
     else if ($1 == "kind") { if ($3 == "definition") is_definition[$2] = 1 }
     else if ($1 == "says" || $1 == "made") rests[$2, $1, ++edges[$2, $1]] = $3
     else if ($1 == "kit") kit[$2, $4, ++kits[$2, $4]] = $3
@@ -110,15 +112,22 @@ function tokens(text, column, place,    words, n, i, found) {
     return found
 }
 
-# docs/ANSWER.md: each line of a theorem stands so in the specs. A theorem is printed in lines indented by four or more, the first with an arrow.
+# docs/ANSWER.md: a theorem is printed in a block of lines indented by four or more that begins with its name and a colon. These are, leading blanks and
+# pub apart, all the lines of its statement in the file of specs that the page named last, and it stands there in no module, which might assume more.
 function statement(    line) {
     line = $0
-    if (!sub(/^     */, "", line)) {
-        printed = 0
+    if (match(line, /crates\/[a-z_]+\/specs\/[A-Za-z]+\.antt/)) spec = substr(line, RSTART, RLENGTH)
+    if (!sub(/^     *(pub )?/, "", line)) {
+        if (theorem != "") theorems += check(printed == stated[spec, theorem], theorem_place, spec " does not state " theorem " in just these lines")
+        theorem = printed = ""
+        indented = 0
         return
     }
-    if (index(line, "→")) printed = 1
-    if (printed) check(line in is_line, here(), "no line of the specs is: " line)
+    if (!indented++ && line ~ /^[^ ]+ : /) {
+        theorem = substr(line, 1, index(line, " ") - 1)
+        theorem_place = here()
+    }
+    printed = printed "\n" line
 }
 
 # docs/PROVED.md: its tables' rows, each of which cites something, and its text.
@@ -271,13 +280,18 @@ function edits(    file) {
 # AS_MUT_SLICE
 
 # A check of text: the contract of as_mut_slice says nothing of the words beside the part, so its body is held to these four lines, the first of which
-# lends the pool to be read only.
-function lending(    place) {
-    place = public["pool::writing::as_mut_slice"]
-    check(wording["pool::writing::as_mut_slice", "body"] == "let part = self.part(pool, handles, slot); let start = part.start; let end = part.end; &mut pool[start..end]",
-        place, "the body of as_mut_slice is not the four lines that find its part and lend it")
-    check(wording["pool::reading::part", "signature"] == "pub fn part(self, pool: &[u32], handles: &[u32], slot: usize) -> Part",
-        public["pool::reading::part"], "part, by which as_mut_slice finds its part, is not lent the pool to be read only")
+# lends the pool to be read only. The crate has one function of either name, so that no other can be taken for it.
+function lending() {
+    hold_to("pool::writing::ListPool::as_mut_slice", "body",
+        "let part = self.part(pool, handles, slot); let start = part.start; let end = part.end; &mut pool[start..end]",
+        "the body of as_mut_slice is not the four lines that find its part and lend it")
+    hold_to("pool::reading::ListPool::part", "signature", "pub fn part(self, pool: &[u32], handles: &[u32], slot: usize) -> Part",
+        "part, by which as_mut_slice finds its part, is not lent the pool to be read only")
+}
+
+function hold_to(name, what, text, fault) {
+    check(wordings[name, "fn"] == 1, wording[name, "fn"], "the crate has " wordings[name, "fn"] + 0 " functions of the name of " name)
+    check(wording[name, what] == text, wording[name, "fn"], fault)
 }
 
 # WHAT HAS TO BE BELIEVED

@@ -4,13 +4,16 @@
 #     rattle  CITATION  pub|private  FILE  LINE  KIND   what a crate's source declares, cited as crate::file::name or crate::name
 #     test    PATH::NAME                                a function of a test in Rust or C
 #
-#     text    CITATION  signature|body  TEXT              of the functions that `held` names, without comments, on one line
+#     stated  FILE  NAME  LINE                            a line of the statement of what stands in no module, without leading blanks and pub
+#     text    CITATION  fn|signature|body  TEXT           of the methods that `held` names: where each function of that name in the crate is,
+#                                                         and signature and body without comments, on one line
+#     unread  FILE:LINE                                   a block comment, past which none of these checks reads
 #
 # KIND is struct, const, or fn followed by what it has: method, extern, requires, ensures. The Lib.antt of the crates come first.
 
 BEGIN {
     OFS = "\t"
-    held["pool::reading::part"] = held["pool::writing::as_mut_slice"] = 1
+    held["pool::reading::ListPool::part"] = held["pool::writing::ListPool::as_mut_slice"] = 1
 }
 
 FNR == 1 {
@@ -25,6 +28,7 @@ FNR == 1 {
     sub(/.*\./, "", language)
 }
 
+language ~ /^(antt|rt)$/ && /\{-|\/\*/ { print "unread", FILENAME ":" FNR, "a block comment" }
 language == "antt" { antt(); next }
 language == "rt" { rattle(); next }
 language == "rs" { if (match($0, /(^|[ \t])fn [a-z_0-9]+/)) test(substr($0, RSTART, RLENGTH)); next }
@@ -39,11 +43,18 @@ function test(text, words, n) {
 }
 
 # A line of antt. What is exported has the word pub; fields of a record and constructors of a data type are no declarations of their own.
-function antt(    words, n, i, exported, marked, indent) {
+function antt(    words, n, i, exported, marked, indent, text) {
     match($0, /^ */)
     indent = RLENGTH
     n = split($0, words, " ")
     if (n == 0 || words[1] ~ /^--/) return
+    text = $0
+    sub(/^ *(pub )?/, "", text)
+    if (stating != "" && indent > 0) {
+        print "stated", FILENAME, stating, text
+        return
+    }
+    stating = ""
     if (in_record && indent > record_indent) return
     in_record = 0
     i = 1
@@ -63,11 +74,18 @@ function antt(    words, n, i, exported, marked, indent) {
         i++
     } else if (!marked && words[i + 1] != ":") return
     print "antt", crate "." stem "." words[i], exported && module[crate, stem] ? "pub" : "private", FILENAME, FNR
+    if (indent > 0 || words[i + 1] != ":") return
+    stating = words[i]
+    print "stated", FILENAME, stating, text
 }
 
 # A line of Rattle. A function's contract stands between its name and its body.
-function rattle(    words) {
+function rattle(    words, item) {
     if (holding != "") hold()
+    if ($0 !~ /^ *\/\//) for (item in held) {
+        split(item, words, "::")
+        if (crate == words[1] && $0 ~ "fn +" words[4] "([^A-Za-z0-9_]|$)") print "text", item, "fn", FILENAME ":" FNR
+    }
     if ($0 ~ /^impl /) {
         split($0, words, " ")
         type = words[2] "::"
@@ -88,8 +106,8 @@ function rattle(    words) {
         name_file = FILENAME
         name_place = place()
         name_type = type
-        if ((name_place name) in held) {
-            holding = name_place name
+        if ((name_place type name) in held) {
+            holding = name_place type name
             holding_part = "signature"
             holding_text = $0
             holding_indent = match($0, /[^ ]/) - 1
