@@ -13,7 +13,8 @@ use Rattle.words.specs.RunLaws.{length_filled, get_or_filled_within, get_or_sets
 use Rattle.pool.specs.declared.ListPool.{ListPool}
 use Rattle.pool.specs.Numbers.{◌or_else◌, given, over_limit}
 use Rattle.pool.specs.Rules.{answer}
-use Rattle.pool.specs.Facts.{Within, within_facts}
+use Rattle.pool.specs.Facts.{Within}
+use Rattle.pool.proofs.Facts.{within_facts}
 use Rattle.audit.specs.Audit.{Audited, audited, accepted, audit_number, verdict, audit}
 use Rattle.audit.specs.Covers.{Clean}
 

@@ -9,9 +9,10 @@ use native.Mathlib.Omega.{arith}
 use Rattle.std.proofs.Math.Decide.{dec_lt}
 use Rattle.std.proofs.Math.ListN.{get_or-eq_default}
 use Rattle.sizes.specs.Class.{class_count, class_of, size_of}
-use Rattle.sizes.specs.Laws.{size_least}
+use Rattle.sizes.proofs.Laws.{size_least}
 use Rattle.pool.specs.declared.ListPool.{ListPool}
-use Rattle.pool.specs.Facts.{Within, handle_facts, head_facts}
+use Rattle.pool.specs.Facts.{Within}
+use Rattle.pool.proofs.Facts.{handle_facts, head_facts}
 use Rattle.sound.specs.Sound.{sum, over, live_over, free_over, Chain, Cut}
 use Rattle.sound.specs.Sums.{over_le, sum_ge}
 use Rattle.sound.specs.SoundBut.{live_none, live_some}

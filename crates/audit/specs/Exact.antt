@@ -6,13 +6,14 @@ use Rattle.std.proofs.Math.Option.{none-ne-some}
 use Rattle.std.proofs.Math.Decide.{dec_lt}
 use Rattle.std.proofs.lemmas.List.{length-replicate}
 use Rattle.sizes.specs.Class.{class_count, class_of}
-use Rattle.sizes.specs.Laws.{size_least, size_fours}
+use Rattle.sizes.proofs.Laws.{size_least, size_fours}
 use Rattle.words.specs.RunLaws.{length_filled}
 use Rattle.pool.specs.declared.ListPool.{ListPool}
 use Rattle.pool.specs.declared.Answer.{Answer}
 use Rattle.pool.specs.Numbers.{pool_limit, table_limit, state_of, handle_at, over_limit}
 use Rattle.pool.specs.Rules.{answer, len_of}
-use Rattle.pool.specs.Facts.{Within, within_limits}
+use Rattle.pool.specs.Facts.{Within}
+use Rattle.pool.proofs.Facts.{within_limits}
 use Rattle.sound.specs.Sound.{Cut, Sound}
 use Rattle.sound.specs.CutProperties.{Place, live, free, Block, start_of, words_of, Lies, OnChain, word_in_one, word_in_block, word_in_none, cut_unique}
 use Rattle.sound.specs.Cleared.{cleared_sound}

@@ -3,11 +3,12 @@
 use Rattle.std.specs.Prelude.{◌≡◌, List, ◌≢◌, ℕ, ◌+◌, ◌<◌, length, get_or}
 use Rattle.std.proofs.Common.{arith}
 use Rattle.sizes.specs.Class.{class_count}
-use Rattle.sizes.specs.Laws.{class_holds}
+use Rattle.sizes.proofs.Laws.{class_holds}
 use Rattle.pool.specs.declared.ListPool.{ListPool}
 use Rattle.pool.specs.Numbers.{handle_at}
 use Rattle.pool.specs.Rules.{len_of, len, get, done, called}
-use Rattle.pool.specs.Facts.{Within, list_at_lem}
+use Rattle.pool.specs.Facts.{Within}
+use Rattle.pool.proofs.Facts.{list_at_lem}
 use Rattle.sound.specs.Sound.{Cut, lists, list_at}
 use Rattle.sound.specs.SoundBut.{handle_inside}
 use Rattle.sound.specs.CutProperties.{live, free, Lies, blocks_apart}

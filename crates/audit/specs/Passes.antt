@@ -11,10 +11,10 @@ use Rattle.std.proofs.Math.Seq.{drop-cons}
 use borrow.Author.Tests.{eq-eqb, ne_eqb}
 use native.Mathlib.Omega.{arith}
 use Rattle.sizes.specs.Class.{class_of}
-use Rattle.sizes.specs.Laws.{size_least}
+use Rattle.sizes.proofs.Laws.{size_least}
 use Rattle.words.specs.Runs.{filled}
 use Rattle.pool.specs.Numbers.{sound_handle, sound_head}
-use Rattle.pool.specs.Facts.{handle_facts, head_facts}
+use Rattle.pool.proofs.Facts.{handle_facts, head_facts}
 use Rattle.audit.specs.Audit.{live_mark, free_mark, group_of, marked, and_then, handles_marked, chain_marked, chains_marked, groups_at, swept}
 
 -- What a pass ensures that answers r: the rule's map is the one it leaves, or the rule refuses; and in any case the map's words from n on stay.

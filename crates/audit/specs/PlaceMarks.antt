@@ -6,7 +6,7 @@ use mathlib.Core.List.{List, [], ◌∷◌, Memᴰ}
 use Rattle.sizes.specs.Class.{class_count}
 use Rattle.pool.specs.declared.ListPool.{ListPool}
 use Rattle.pool.specs.Numbers.{head_of, handle_at}
-use Rattle.pool.specs.Facts.{handle_facts, head_facts}
+use Rattle.pool.proofs.Facts.{handle_facts, head_facts}
 use Rattle.sound.specs.Sound.{Chain, Cut}
 use Rattle.sound.specs.CutProperties.{Place, live, free, Block, start_of}
 use Rattle.audit.specs.Audit.{live_mark, free_mark, group_of}

@@ -13,8 +13,8 @@ use borrow.Author.Tests.{lt-ltb, le-ltb, eq-eqb, ne_eqb, eqb-true, eqb-false, no
 use Rattle.std.proofs.Math.ListN.{length, length-set}
 use Rattle.std.proofs.Math.Dec.{eqb}
 use Rattle.sizes.specs.Class.{class_of, size_of, size_word}
-use Rattle.sizes.specs.Laws.{class_le, size_least, size_fours}
-use Rattle.pool.specs.Facts.{both}
+use Rattle.sizes.proofs.Laws.{class_le, size_least, size_fours}
+use Rattle.pool.proofs.Facts.{both}
 use Rattle.sound.specs.Sound.{over}
 use Rattle.sound.specs.Sums.{over_in, over_left, over_right, over_add}
 use Rattle.audit.specs.Audit.{free_mark, class_at, groups_at, swept}

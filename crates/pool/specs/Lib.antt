@@ -2,9 +2,6 @@ pub mod Numbers
 pub mod Blocks
 pub mod Rules
 pub mod Parts
-pub mod Promises
 pub mod NumberTable
 pub mod Steps
 pub mod Facts
-pub mod StepLaws
-pub mod CallLaws

@@ -1,6 +1,6 @@
 // The checks that the calls and the audit share, on any input whatever: the limits, and local soundness of a handle and of a head.
 ghost use Rattle.std.specs.Prelude.{◌≡◌};
-ghost use Rattle.pool.specs.Numbers.{over_limit, sound_handle, sound_head, too_long};
+ghost use Rattle.pool.specs.Numbers as numbers;
 
 use sizes::SizeClass;
 
@@ -12,7 +12,7 @@ pub const TABLE_LIMIT: usize = 16384;
 
 // Returns whether the pool or the table is over its limit.
 pub fn too_long(pool: usize, table: usize) -> bool
-    ensures { result ≡ too_long pool table }
+    ensures { result ≡ numbers.too_long pool table }
 {
     if pool > POOL_LIMIT {
         return true;
@@ -22,7 +22,7 @@ pub fn too_long(pool: usize, table: usize) -> bool
 
 // Returns whether a limit is passed: a length over its own, or a used count above the pool's length or not a multiple of 4.
 pub fn over_limit(used: u32, pool: usize, table: usize) -> bool
-    ensures { result ≡ over_limit used pool table }
+    ensures { result ≡ numbers.over_limit used pool table }
 {
     if too_long(pool, table) {
         return true;
@@ -35,7 +35,7 @@ pub fn over_limit(used: u32, pool: usize, table: usize) -> bool
 
 // Returns whether a handle is locally sound.
 pub fn sound_handle(used: usize, pool: &[u32], h: u32) -> bool
-    ensures { result ≡ sound_handle used pool.now h }
+    ensures { result ≡ numbers.sound_handle used pool.now h }
 {
     if h == 0 {
         return true;
@@ -59,7 +59,7 @@ pub fn sound_handle(used: usize, pool: &[u32], h: u32) -> bool
 
 // Returns whether a head of the class c is locally sound.
 pub fn sound_head(used: usize, pool: &[u32], c: u32, h: u32) -> bool
-    ensures { result ≡ sound_head used pool.now c h }
+    ensures { result ≡ numbers.sound_head used pool.now c h }
 {
     if h == 0 {
         return true;

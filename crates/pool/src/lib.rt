@@ -9,6 +9,8 @@
 //
 //     | 0 | next | anything .. |
 //           ^ a head or next = block start + 1; 0 ends the chain
+#![tactic(auto)]
+
 use sizes::SizeClass;
 
 mod blocks;

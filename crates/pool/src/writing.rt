@@ -2,7 +2,7 @@
 ghost use Rattle.std.specs.Prelude.{◌≡◌};
 ghost use Rattle.pool.specs.Rules as rules;
 ghost use Rattle.pool.specs.Rules.{called, outcome};
-ghost use Rattle.pool.specs.Parts.{LiesIn};
+ghost use Rattle.pool.specs.Parts.{LiesInMut};
 ghost use Rattle.pool.specs.Steps.{Does};
 
 use super::{Answer, ListPool, numbers};
@@ -35,7 +35,7 @@ impl ListPool {
         handles: &[u32],
         slot: usize,
     ) -> &'a mut [u32]
-        ensures { LiesIn self handles.now slot pool.entry result }
+        ensures { LiesInMut self handles.now slot pool.entry result }
     {
         let part = self.part(pool, handles, slot);
         let start = part.start;

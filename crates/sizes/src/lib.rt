@@ -1,4 +1,6 @@
 // Size classes: lists are stored in blocks whose sizes are powers of two, from 4 words on.
+#![tactic(auto)]
+
 ghost use Rattle.sizes.specs.Class.{ClassOf, SizeOf};
 
 // The class type: its limits as constants, the class of a length and the size of a class as functions.

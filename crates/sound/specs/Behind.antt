@@ -11,14 +11,14 @@ use Rattle.std.proofs.Math.Seq.{get_or-set_same, drop-set-lt, take_all}
 use Rattle.words.specs.Runs.{filled}
 use Rattle.words.specs.RunLaws.{get_or_filled_within, length_filled}
 use Rattle.sizes.specs.Class.{class_of, size_of}
-use Rattle.sizes.specs.Laws.{class_fits}
+use Rattle.sizes.proofs.Laws.{class_fits}
 use Rattle.pool.specs.declared.ListPool.{ListPool}
 use Rattle.pool.specs.Numbers.{head_of, handle_at, needs_block}
 use Rattle.pool.specs.Blocks.{MAX, Taken, recycled, fresh, alloc, realloc, moved}
 use Rattle.pool.specs.Rules.{len_of, grown}
 use Rattle.pool.specs.Steps.{CanAlloc, CanResize, Ready}
-use Rattle.pool.specs.StepLaws.{can_realloc}
-use Rattle.pool.specs.Facts.{stays}
+use Rattle.pool.proofs.StepLaws.{can_realloc}
+use Rattle.pool.proofs.Facts.{stays}
 use Rattle.sound.specs.Sound.{SoundWith}
 use Rattle.sound.specs.SoundBut.{span, SoundBut, run_ext}
 use Rattle.sound.specs.Steps.{own, alloc_took, realloc_took, moved_resized}

@@ -10,13 +10,13 @@ use Rattle.std.proofs.Math.Seq.{length-sets, take-set-lt, take-length}
 use Rattle.std.proofs.lemmas.List.{set-get_or, drop-set-add}
 use Rattle.words.specs.RunLaws.{get_or_sets_below, length_take_drop, get_or_take_drop}
 use Rattle.sizes.specs.Class.{class_of, size_of}
-use Rattle.sizes.specs.Laws.{class_fits, class_below}
+use Rattle.sizes.proofs.Laws.{class_fits, class_below}
 use Rattle.pool.specs.declared.ListPool.{ListPool}
 use Rattle.pool.specs.Numbers.{handle_at, length_at}
 use Rattle.pool.specs.Blocks.{Freed, free, moved}
 use Rattle.pool.specs.Rules.{Outcome, len_of, done, seated, cleared, grown}
 use Rattle.pool.specs.Steps.{ListAt, Ready}
-use Rattle.pool.specs.Facts.{list_at_lem}
+use Rattle.pool.proofs.Facts.{list_at_lem}
 use Rattle.sound.specs.Sound.{over, list_of, lists, list_at, SoundWith}
 use Rattle.sound.specs.Sums.{over_in, over_part}
 use Rattle.sound.specs.SoundBut.{span, span_over, SoundBut, held_sound, sound_held, held_write, run_ext, length_none, length_some}

@@ -6,7 +6,7 @@ use Rattle.sizes.specs.Class.{class_count}
 use Rattle.pool.specs.declared.ListPool.{ListPool}
 use Rattle.pool.specs.Numbers.{pool_limit, table_limit, too_long, given, state_of, length_at, sound_handle}
 use Rattle.pool.specs.Rules.{clear_pool, number_of, done_of, unless, called, clear_pool_number, clear_pool_done}
-use Rattle.pool.specs.Facts.{given_zero, neither}
+use Rattle.pool.proofs.Facts.{given_zero, neither}
 use Rattle.sound.specs.Sound.{sum, free_over, live_over, Sound, list_of, lists, LeavesWith}
 use Rattle.sound.specs.Sums.{over_right, sum_zero}
 use Rattle.sound.specs.SoundBut.{live_none}

@@ -12,7 +12,7 @@ use Rattle.pool.specs.Numbers.{handle_at}
 use Rattle.pool.specs.Blocks.{moved}
 use Rattle.pool.specs.Rules.{len_of, done, seated, deep_clone, copy_from, number_of, done_of, grown, opened}
 use Rattle.pool.specs.Rules.{deep_clone_number, copy_from_number, deep_clone_done, copy_from_done}
-use Rattle.pool.specs.Facts.{given_zero, neither, else_first, else_second, entry_facts₂, ready, ready_empty}
+use Rattle.pool.proofs.Facts.{given_zero, neither, else_first, else_second, entry_facts₂, ready, ready_empty}
 use Rattle.sound.specs.Sound.{list_at, SoundWith, LeavesWith}
 use Rattle.sound.specs.Changes.{SoundWithSet, LeavesWithSet, has, other_part, length_list, list_here, list_empty, written, grew}
 use Rattle.sound.specs.Sequences.{insert_all, open_at, range}

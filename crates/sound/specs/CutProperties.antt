@@ -9,11 +9,11 @@ use Rattle.std.proofs.Math.Decide.{dec_le, dec_lt, ℕ_discrete}
 use Rattle.std.proofs.Math.ListN.{length, get_or-eq_default}
 use Rattle.words.specs.RunLaws.{length_take_drop}
 use Rattle.sizes.specs.Class.{class_count, class_of, size_of}
-use Rattle.sizes.specs.Laws.{size_least}
+use Rattle.sizes.proofs.Laws.{size_least}
 use Rattle.pool.specs.declared.ListPool.{ListPool}
 use Rattle.pool.specs.Numbers.{head_of, handle_at, length_at, sound_handle}
 use Rattle.pool.specs.Rules.{len_of}
-use Rattle.pool.specs.Facts.{handle_facts, head_facts, list_at_lem}
+use Rattle.pool.proofs.Facts.{handle_facts, head_facts, list_at_lem}
 use Rattle.sound.specs.Sound.{sum, over, live_over, free_over, Chain, Cut, Sound, list_of, lists, SoundWith}
 use Rattle.sound.specs.Sums.{over_in, over_pos, over_le, over_right, sum_ge, sum_ge_two, sum_cong, sum_pos}
 use Rattle.sound.specs.Totals.{upto, upto_zero, upto_cong, upto_add, upto_sum, upto_over}

@@ -14,7 +14,7 @@ use Rattle.pool.specs.Blocks.{moved}
 use Rattle.pool.specs.Rules.{len_of, from_slice, push, extend, insert, grow_at, number_of, done_of, grown, opened}
 use Rattle.pool.specs.Rules.{from_slice_number, push_done, extend_done, from_slice_done, insert_done, grow_at_done}
 use Rattle.pool.specs.Steps.{Ready}
-use Rattle.pool.specs.Facts.{given_zero, else_first, else_second, entry_facts, grow_facts, grow_at_facts, ready_empty}
+use Rattle.pool.proofs.Facts.{given_zero, else_first, else_second, entry_facts, grow_facts, grow_at_facts, ready_empty}
 use Rattle.sound.specs.Sound.{list_at, SoundWith, LeavesWith}
 use Rattle.sound.specs.Changes.{SoundWithSet, LeavesWithSet, has, has_length, has_part, length_list, list_empty, written, grew}
 use Rattle.sound.specs.Sequences.{insert_all, open_at}

@@ -9,10 +9,11 @@ use native.Mathlib.Omega.{arith}
 use Rattle.std.proofs.Math.Decide.{ℕ_discrete}
 use Rattle.std.proofs.Math.ListN.{length, get_or, set, length-set}
 use Rattle.sizes.specs.Class.{class_count, class_of, size_of}
-use Rattle.sizes.specs.Laws.{size_least, size_fours}
+use Rattle.sizes.proofs.Laws.{size_least, size_fours}
 use Rattle.pool.specs.declared.ListPool.{ListPool}
 use Rattle.pool.specs.Numbers.{state_of, head_of, handle_at, sound_handle}
-use Rattle.pool.specs.Facts.{Within, handle_facts, head_facts}
+use Rattle.pool.specs.Facts.{Within}
+use Rattle.pool.proofs.Facts.{handle_facts, head_facts}
 use Rattle.sound.specs.Sound.{sum, over, live_over, free_over, Chain}
 use Rattle.sound.specs.Sums.{over_le, over_add, sum_set}
 use Rattle.sound.specs.SoundBut.{Span, span, span_over, Spans, SoundBut, handle_sound, head_sound, live_none, live_some, handle_frame, chain_frame}

@@ -11,7 +11,7 @@ use Rattle.pool.specs.Numbers.{◌or_else◌, handle_at, given, entry_number, en
 use Rattle.pool.specs.Rules.{Call, from_slice, is_empty, len, is_valid, get, first, set_at, deep_clone, clear, take, push}
 use Rattle.pool.specs.Rules.{extend, copy_from, insert, remove, swap_remove, truncate, grow_at, clear_pool, len_of, number_of, at_number}
 use Rattle.pool.specs.Rules.{take_number, grow_number, from_slice_number, deep_clone_number, grow_at_number, copy_from_number, remove_number, truncate_number}
-use Rattle.pool.specs.Facts.{within_limits, else_none, else_assoc}
+use Rattle.pool.proofs.Facts.{within_limits, else_none, else_assoc}
 use Rattle.sound.specs.Sound.{list_at, SoundWith}
 use Rattle.sound.specs.SoundBut.{handle_inside}
 use Rattle.sound.specs.CutProperties.{not_shared}

@@ -8,7 +8,7 @@ use mathlib.Core.List.{List, [], ◌∷◌}
 use Rattle.std.proofs.Math.Logic.{inl, inr, Iff·trans}
 use Rattle.std.proofs.Math.Decide.{ℕ_discrete}
 use Rattle.sizes.specs.Class.{longest, class_of, size_of}
-use Rattle.sizes.specs.Laws.{size_least}
+use Rattle.sizes.proofs.Laws.{size_least}
 use Rattle.pool.specs.declared.ListPool.{ListPool}
 use Rattle.pool.specs.Numbers.{◌or_else◌, head_of, sound_head, given, bad_head, no_room, room_number, needs_block, need_number}
 use Rattle.pool.specs.Rules.{Call, from_slice, is_empty, len, is_valid, get, first, set_at, deep_clone, clear, take, push}

@@ -10,7 +10,7 @@ use Rattle.pool.specs.declared.ListPool.{ListPool}
 use Rattle.pool.specs.declared.Part.{Part}
 use Rattle.pool.specs.Numbers.{handle_at, entry_number}
 use Rattle.pool.specs.Rules.{len_of, part, set_at, take, number_of, done_of, take_number, set_done, take_done}
-use Rattle.pool.specs.Facts.{at_facts, given_zero, neither, else_first, else_second, entry_facts, entry_facts₂, handle_facts}
+use Rattle.pool.proofs.Facts.{at_facts, given_zero, neither, else_first, else_second, entry_facts, entry_facts₂, handle_facts}
 use Rattle.sound.specs.Sound.{list_of, list_at, SoundWith, LeavesWith}
 use Rattle.sound.specs.SoundBut.{SoundBut}
 use Rattle.sound.specs.HandOver.{held_out, held_in}

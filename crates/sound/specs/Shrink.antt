@@ -12,8 +12,8 @@ use Rattle.pool.specs.declared.ListPool.{ListPool}
 use Rattle.pool.specs.Numbers.{handle_at}
 use Rattle.pool.specs.Rules.{len_of, last_removed, clear, remove, swap_remove, truncate, number_of, done_of, clear_done, remove_done, swap_remove_done, truncate_done}
 use Rattle.pool.specs.Steps.{Ready, resized}
-use Rattle.pool.specs.Facts.{entry_facts, remove_facts, truncate_facts}
-use Rattle.pool.specs.CallLaws.{last_resized, truncate_resized, truncate_none}
+use Rattle.pool.proofs.Facts.{entry_facts, remove_facts, truncate_facts}
+use Rattle.pool.proofs.CallLaws.{last_resized, truncate_resized, truncate_none}
 use Rattle.sound.specs.Sound.{list_at, SoundWith, LeavesWith}
 use Rattle.sound.specs.Changes.{SoundWithSet, LeavesWithSet, has, has_length, has_at, has_part, written, shrunk, emptied}
 use Rattle.sound.specs.Sequences.{remove_at, swap_remove_at}

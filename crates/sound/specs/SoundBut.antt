@@ -9,10 +9,11 @@ use Rattle.std.proofs.Math.Decide.{dec_lt}
 use Rattle.std.proofs.Math.ListN.{length, get_or, take, get_or-eq_default}
 use Rattle.words.specs.RunLaws.{length_take_drop, get_or_take_drop}
 use Rattle.sizes.specs.Class.{class_count, class_of, size_of}
-use Rattle.sizes.specs.Laws.{size_least, class_holds}
+use Rattle.sizes.proofs.Laws.{size_least, class_holds}
 use Rattle.pool.specs.declared.ListPool.{ListPool}
 use Rattle.pool.specs.Numbers.{pool_limit, head_of, handle_at, length_at, sound_handle, sound_head}
-use Rattle.pool.specs.Facts.{Within, Live, Head, handle_facts, head_facts}
+use Rattle.pool.specs.Facts.{Within, Live, Head}
+use Rattle.pool.proofs.Facts.{handle_facts, head_facts}
 use Rattle.sound.specs.Sound.{sum, over, live_over, free_over, Chain, Sound, list_of, lists}
 use Rattle.sound.specs.Sums.{over_in, over_pos, over_le, sum_ge, sum_cong}
 

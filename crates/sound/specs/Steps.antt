@@ -9,13 +9,13 @@ use Rattle.std.proofs.Math.Seq.{length-sets, get_or-set_same}
 use Rattle.words.specs.Runs.{filled, copied}
 use Rattle.words.specs.RunLaws.{get_or_sets_below, get_or_sets_above, length_take_drop, get_or_copied_within, length_copied, length_filled}
 use Rattle.sizes.specs.Class.{class_count, class_of, size_of}
-use Rattle.sizes.specs.Laws.{size_least}
+use Rattle.sizes.proofs.Laws.{size_least}
 use Rattle.pool.specs.declared.ListPool.{ListPool}
 use Rattle.pool.specs.Numbers.{head_of, needs_block}
 use Rattle.pool.specs.Blocks.{MAX, Taken, Freed, recycled, fresh, alloc, free, realloc, moved}
 use Rattle.pool.specs.Steps.{CanAlloc, CanRealloc, CanResize}
-use Rattle.pool.specs.StepLaws.{can_realloc}
-use Rattle.pool.specs.Facts.{stays}
+use Rattle.pool.proofs.StepLaws.{can_realloc}
+use Rattle.pool.proofs.Facts.{stays}
 use Rattle.sound.specs.Sound.{over, lists}
 use Rattle.sound.specs.Sums.{over_in, over_part}
 use Rattle.sound.specs.SoundBut.{Span, span, span_over, SoundBut, held_write, run_ext}

@@ -1,5 +1,7 @@
 // Runs of words in a slice that the caller lends, filled, shifted, copied and stored.
 // The loops are plain because the compiler then moves eight words a turn, however close the two runs lie.
+#![tactic(auto)]
+
 ghost use Rattle.std.specs.Prelude.{◌+◌, ◌≤◌, length, ◌≡◌};
 ghost use Rattle.words.specs.Runs.{copied, filled, stored};
 

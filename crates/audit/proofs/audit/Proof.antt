@@ -5,7 +5,7 @@ use native.Mathlib.Omega.{arith}
 use lib.ListN.{length}
 use borrow.Author.Tests.{lt-ltb, le-ltb, not-true, not-false}
 use Rattle.pool.specs.Numbers.{◌or_else◌, given}
-use Rattle.pool.specs.Facts.{within_facts}
+use Rattle.pool.proofs.Facts.{within_facts}
 use Rattle.audit.specs.Audit.{audit, audit_number, verdict}
 use Rattle.audit.specs.Passes.{filled_again}
 use borrow.Author.Rules.{rules}

@@ -5,7 +5,7 @@ use native.Mathlib.Omega.{arith}
 use Prim.Native.Nat.{◌≤◌}
 use mathlib.Core.Path.{◌∙◌, sym}
 use Rattle.sizes.specs.Class.{size_of}
-use Rattle.sizes.specs.Laws.{size_mono}
+use Rattle.sizes.proofs.Laws.{size_mono}
 use Rattle.maaliskur.specs.Fits.{size_fits}
 use Rattle.maaliskur.proofs.maaliskur_size.Statement.{statement}
 use Rattle.maaliskur.proofs.maaliskur_size.Tie as tie

@@ -1,0 +1,17 @@
+-- `push` meets its contract: refused with its number, or done.
+use mathlib.Core.Path.{sym, ◌∙◌}
+use Rattle.pool.specs.Rules.{called, unless, number_of, done_of}
+use Rattle.pool.proofs.Tests.{tests}
+use Rattle.pool.proofs.Facts.{grow_facts}
+use Rattle.pool.proofs.ListPool.push.Goals as goal
+
+pub returns-then-number-ne0 : goal.returns-then-number-ne0
+unfolding called unless number_of done_of
+returns-then-number-ne0 c = search (tests, ← c.push_number-number.ensures, c.refused.ensures)
+
+pub push_done-requires : goal.push_done-requires
+push_done-requires c = (grow_facts _ _ _ _ _ (sym c.push_number-number.ensures ∙ c.if-number-ne0.false))
+
+pub returns : goal.returns
+unfolding called unless number_of done_of
+returns c = search (tests, ← c.push_number-number.ensures, ← c.push_done.ensures.is)

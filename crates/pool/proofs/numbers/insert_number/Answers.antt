@@ -1,0 +1,34 @@
+-- `insert_number` meets its contract.
+use native.Mathlib.Omega.{arith}
+use mathlib.Core.Path.{sym, ◌∙◌}
+use Rattle.pool.specs.Numbers.{◌or_else◌, given}
+use Rattle.pool.specs.Rules.{grow_at_number}
+use Rattle.pool.proofs.Facts.{entry_facts}
+use Rattle.pool.proofs.Tests.{tests}
+use Rattle.pool.proofs.numbers.insert_number.Goals as goal
+
+pub returns-then-entry-ne0 : goal.returns-then-entry-ne0
+unfolding grow_at_number ◌or_else◌
+returns-then-entry-ne0 c = search (tests, ← c.entry_number-entry.ensures)
+
+pub offset_bounds-handles-slot : goal.offset_bounds-handles-slot
+offset_bounds-handles-slot c = let f = entry_facts _ _ _ _ (sym c.entry_number-entry.ensures ∙ omega arith) in omega arith
+
+pub bounds-handles-slot : goal.bounds-handles-slot
+bounds-handles-slot c = (entry_facts _ _ _ _ (sym c.entry_number-entry.ensures ∙ c.if-entry-ne0.false)).inside
+
+pub length_at-old-requires : goal.length_at-old-requires
+length_at-old-requires c = (entry_facts _ _ _ _ (sym c.entry_number-entry.ensures ∙ c.if-entry-ne0.false)).list.below
+
+pub returns-then-position-old : goal.returns-then-position-old
+unfolding grow_at_number given ◌or_else◌
+returns-then-position-old c = search (tests, ← c.entry_number-entry.ensures, ← c.length_at-old.ensures)
+
+pub overflow_add-old : goal.overflow_add-old
+overflow_add-old c = let f = entry_facts _ _ _ _ (sym c.entry_number-entry.ensures ∙ c.if-entry-ne0.false) in rw c.length_at-old.ensures (omega (arith, f.list.short))
+
+pub returns : goal.returns
+unfolding grow_at_number given ◌or_else◌
+returns c =
+    let n = c.length_at-old.ensures in
+    search (tests, ← c.entry_number-entry.ensures, ← n, ← c.need_number.ensures)
