@@ -14,9 +14,9 @@ use Rattle.pool.specs.declared.ListPool.{ListPool}
 use Rattle.pool.specs.Facts.{Within}
 use Rattle.pool.proofs.Facts.{handle_facts, head_facts}
 use Rattle.sound.specs.Sound.{sum, over, live_over, free_over, Chain, Cut}
-use Rattle.sound.specs.Sums.{over_le, sum_ge}
-use Rattle.sound.specs.SoundBut.{live_none, live_some}
-use Rattle.sound.specs.CutProperties.{words_add_up}
+use Rattle.sound.proofs.Sums.{over_le, sum_ge}
+use Rattle.sound.proofs.SoundBut.{live_none, live_some}
+use Rattle.sound.proofs.CutProperties.{words_add_up}
 use Rattle.audit.specs.Audit.{live_mark, free_mark, group_of, groups_at, accepted}
 use Rattle.audit.specs.Marks.{Mark, Made, Fits, fits_append, made_length, made_take, made_whole}
 use Rattle.audit.specs.Sweep.{groups_live, groups_free, mark_over, marks_over, map_over, mark_some, map_none, made_over}

@@ -15,8 +15,10 @@ use Rattle.pool.specs.Rules.{answer, len_of}
 use Rattle.pool.specs.Facts.{Within}
 use Rattle.pool.proofs.Facts.{within_limits}
 use Rattle.sound.specs.Sound.{Cut, Sound}
-use Rattle.sound.specs.CutProperties.{Place, live, free, Block, start_of, words_of, Lies, OnChain, word_in_one, word_in_block, word_in_none, cut_unique}
-use Rattle.sound.specs.Cleared.{cleared_sound}
+use Rattle.sound.specs.CutProperties.{Place, Block, start_of, words_of, Lies, OnChain}
+use Rattle.sound.specs.CutProperties.{live, free}
+use Rattle.sound.proofs.CutProperties.{word_in_one, word_in_block, word_in_none, cut_unique}
+use Rattle.sound.proofs.Cleared.{cleared_sound}
 use Rattle.audit.specs.Audit.{group_of, Audited, audited, audit}
 use Rattle.audit.specs.Marks.{made_length, made_past, made_has, made_from}
 use Rattle.audit.specs.Walks.{marks_of, Accepted, accepted_says}

@@ -10,11 +10,13 @@ use Rattle.pool.specs.Rules.{len_of, len, get, done, called}
 use Rattle.pool.specs.Facts.{Within}
 use Rattle.pool.proofs.Facts.{list_at_lem}
 use Rattle.sound.specs.Sound.{Cut, lists, list_at}
-use Rattle.sound.specs.SoundBut.{handle_inside}
-use Rattle.sound.specs.CutProperties.{live, free, Lies, blocks_apart}
-use Rattle.sound.specs.Changes.{list_element, length_list}
-use Rattle.sound.specs.EveryCall.{its_lists}
-use Rattle.sound.specs.Reading.{len_reads, get_reads}
+use Rattle.sound.proofs.SoundBut.{handle_inside}
+use Rattle.sound.specs.CutProperties.{Lies}
+use Rattle.sound.specs.CutProperties.{live, free}
+use Rattle.sound.proofs.CutProperties.{blocks_apart}
+use Rattle.sound.proofs.Changes.{list_element, length_list}
+use Rattle.sound.proofs.EveryCall.{its_lists}
+use Rattle.sound.proofs.Reading.{len_reads, get_reads}
 use Rattle.audit.specs.Audit.{audit}
 use Rattle.audit.specs.Exact.{audit_zero}
 

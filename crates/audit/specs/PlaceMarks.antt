@@ -8,7 +8,8 @@ use Rattle.pool.specs.declared.ListPool.{ListPool}
 use Rattle.pool.specs.Numbers.{head_of, handle_at}
 use Rattle.pool.proofs.Facts.{handle_facts, head_facts}
 use Rattle.sound.specs.Sound.{Chain, Cut}
-use Rattle.sound.specs.CutProperties.{Place, live, free, Block, start_of}
+use Rattle.sound.specs.CutProperties.{Place, Block, start_of}
+use Rattle.sound.specs.CutProperties.{live, free}
 use Rattle.audit.specs.Audit.{live_mark, free_mark, group_of}
 use Rattle.audit.specs.Marks.{Mark, mark}
 use Rattle.audit.specs.Walks.{live_marks, free_marks, chain_marks, marks_of}

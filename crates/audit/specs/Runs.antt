@@ -6,9 +6,10 @@ use Rattle.pool.specs.declared.ListPool.{ListPool}
 use Rattle.pool.specs.declared.Part.{Part}
 use Rattle.pool.specs.Numbers.{pool_limit, table_limit}
 use Rattle.pool.specs.Rules.{Outcome, outcome, part, Call, clear_pool, called}
-use Rattle.sound.specs.Cleared.{cleared_holds}
-use Rattle.sound.specs.SetAndTake.{write_holds}
-use Rattle.sound.specs.EveryCall.{SoundAfter, its_lists, call_keeps_sound}
+use Rattle.sound.proofs.Cleared.{cleared_holds}
+use Rattle.sound.proofs.SetAndTake.{write_holds}
+use Rattle.sound.specs.EveryCall.{SoundAfter}
+use Rattle.sound.proofs.EveryCall.{its_lists, call_keeps_sound}
 use Rattle.audit.specs.Audit.{audit}
 use Rattle.audit.specs.Exact.{audit_answer, audit_exact}
 

@@ -16,7 +16,7 @@ use Rattle.sizes.specs.Class.{class_of, size_of, size_word}
 use Rattle.sizes.proofs.Laws.{class_le, size_least, size_fours}
 use Rattle.pool.proofs.Facts.{both}
 use Rattle.sound.specs.Sound.{over}
-use Rattle.sound.specs.Sums.{over_in, over_left, over_right, over_add}
+use Rattle.sound.proofs.Sums.{over_in, over_left, over_right, over_add}
 use Rattle.audit.specs.Audit.{free_mark, class_at, groups_at, swept}
 use Rattle.audit.specs.Marks.{Mark, Made, Fits}
 

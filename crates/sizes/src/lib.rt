@@ -4,7 +4,7 @@
 ghost use Rattle.sizes.specs.Class.{ClassOf, SizeOf};
 
 // The class type: its limits as constants, the class of a length and the size of a class as functions.
-#[derive(Drop)]
+#[derive(Clone, Copy)]
 pub struct SizeClass;
 
 impl SizeClass {

@@ -15,9 +15,9 @@ use Rattle.pool.specs.Steps.{Ready, resized}
 use Rattle.pool.proofs.Facts.{entry_facts, remove_facts, truncate_facts}
 use Rattle.pool.proofs.CallLaws.{last_resized, truncate_resized, truncate_none}
 use Rattle.sound.specs.Sound.{list_at, SoundWith, LeavesWith}
-use Rattle.sound.specs.Changes.{SoundWithSet, LeavesWithSet, has, has_length, has_at, has_part, written, shrunk, emptied}
+use Rattle.sound.proofs.Changes.{SoundWithSet, LeavesWithSet, has, has_length, has_at, has_part, written, shrunk, emptied}
 use Rattle.sound.specs.Sequences.{remove_at, swap_remove_at}
-use Rattle.sound.specs.SequenceLaws.{take_shift}
+use Rattle.sound.proofs.SequenceLaws.{take_shift}
 
 -- a list gets no more elements than it has: the first of them are left
 fewer : {st : ListPool} {ws hs : List ℕ} {ls : List (List ℕ)} {slot : ℕ} {l : List ℕ}

@@ -20,9 +20,9 @@ use Rattle.pool.specs.Steps.{CanAlloc, CanResize, Ready}
 use Rattle.pool.proofs.StepLaws.{can_realloc}
 use Rattle.pool.proofs.Facts.{stays}
 use Rattle.sound.specs.Sound.{SoundWith}
-use Rattle.sound.specs.SoundBut.{span, SoundBut, run_ext}
-use Rattle.sound.specs.Steps.{own, alloc_took, realloc_took, moved_resized}
-use Rattle.sound.specs.Changes.{out}
+use Rattle.sound.proofs.SoundBut.{span, SoundBut, run_ext}
+use Rattle.sound.proofs.Steps.{own, alloc_took, realloc_took, moved_resized}
+use Rattle.sound.proofs.Changes.{out}
 use Rattle.sound.specs.ListEffects.{behind}
 
 needs_some : (old new : ℕ) → needs_block old new ≡ true → 0 < new

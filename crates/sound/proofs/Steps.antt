@@ -17,9 +17,9 @@ use Rattle.pool.specs.Steps.{CanAlloc, CanRealloc, CanResize}
 use Rattle.pool.proofs.StepLaws.{can_realloc}
 use Rattle.pool.proofs.Facts.{stays}
 use Rattle.sound.specs.Sound.{over, lists}
-use Rattle.sound.specs.Sums.{over_in, over_part}
-use Rattle.sound.specs.SoundBut.{Span, span, span_over, SoundBut, held_write, run_ext}
-use Rattle.sound.specs.HandOver.{held_pop, held_link, held_grow, held_swap, held_apart}
+use Rattle.sound.proofs.Sums.{over_in, over_part}
+use Rattle.sound.proofs.SoundBut.{Span, span, span_over, SoundBut, held_write, run_ext}
+use Rattle.sound.proofs.HandOver.{held_pop, held_link, held_grow, held_swap, held_apart}
 
 -- a run of stores leaves the words outside of it
 pub get_or_sets_other : (ws : List ℕ) (at : ℕ) (vs : List ℕ) (i : ℕ) → over at (length vs) i ≡ 0 → get_or (sets ws at vs) i 0 ≡ get_or ws i 0

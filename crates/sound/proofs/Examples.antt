@@ -10,9 +10,9 @@ use Rattle.pool.specs.Blocks.{MAX, recycled, fresh, alloc, free, realloc, moved}
 use Rattle.pool.specs.Rules.{number_of, done_of, at_number, push_done, last_removed, grown, opened, grow_number, grow_at_number, grow_at_done}
 use Rattle.pool.specs.Rules.{from_slice_number, from_slice_done, extend_done, remove_number, remove_done, clear_pool_number, clear_pool_done}
 use Rattle.sound.specs.Sound.{sum, over, live_over, Sound, SoundWith}
-use Rattle.sound.specs.Grow.{push_holds, extend_holds, from_slice_holds, grow_at_holds}
-use Rattle.sound.specs.Shrink.{remove_holds}
-use Rattle.sound.specs.Cleared.{clear_pool_holds}
+use Rattle.sound.proofs.Grow.{push_holds, extend_holds, from_slice_holds, grow_at_holds}
+use Rattle.sound.proofs.Shrink.{remove_holds}
+use Rattle.sound.proofs.Cleared.{clear_pool_holds}
 use Rattle.sound.specs.Sequences.{insert_all, open_at, remove_at}
 use Rattle.sound.specs.ListEffects.{behind}
 

@@ -15,8 +15,8 @@ use Rattle.pool.specs.Numbers.{state_of, head_of, handle_at, sound_handle}
 use Rattle.pool.specs.Facts.{Within}
 use Rattle.pool.proofs.Facts.{handle_facts, head_facts}
 use Rattle.sound.specs.Sound.{sum, over, live_over, free_over, Chain}
-use Rattle.sound.specs.Sums.{over_le, over_add, sum_set}
-use Rattle.sound.specs.SoundBut.{Span, span, span_over, Spans, SoundBut, handle_sound, head_sound, live_none, live_some, handle_frame, chain_frame}
+use Rattle.sound.proofs.Sums.{over_le, over_add, sum_set}
+use Rattle.sound.proofs.SoundBut.{Span, span, span_over, Spans, SoundBut, handle_sound, head_sound, live_none, live_some, handle_frame, chain_frame}
 
 -- what holds of every place of a list holds of it after one is set; and of two lists
 set_all : (P : ℕ → Type 0) (l : List ℕ) (k a : ℕ) → P a → ((j : ℕ) → P (get_or l j 0)) → (j : ℕ) → P (get_or (set l k a) j 0)

@@ -8,8 +8,8 @@ use Rattle.pool.specs.Numbers.{pool_limit, table_limit, too_long, given, state_o
 use Rattle.pool.specs.Rules.{clear_pool, number_of, done_of, unless, called, clear_pool_number, clear_pool_done}
 use Rattle.pool.proofs.Facts.{given_zero, neither}
 use Rattle.sound.specs.Sound.{sum, free_over, live_over, Sound, list_of, lists, LeavesWith}
-use Rattle.sound.specs.Sums.{over_right, sum_zero}
-use Rattle.sound.specs.SoundBut.{live_none}
+use Rattle.sound.proofs.Sums.{over_right, sum_zero}
+use Rattle.sound.proofs.SoundBut.{live_none}
 
 -- each element of n times a is a, and so is what stands behind them
 get_or_replicate_all {ℓ} : {A : Type ℓ} (n k : ℕ) (a : A) → get_or (replicate n a) k a ≡ a

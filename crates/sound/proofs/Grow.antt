@@ -16,11 +16,11 @@ use Rattle.pool.specs.Rules.{from_slice_number, push_done, extend_done, from_sli
 use Rattle.pool.specs.Steps.{Ready}
 use Rattle.pool.proofs.Facts.{given_zero, else_first, else_second, entry_facts, grow_facts, grow_at_facts, ready_empty}
 use Rattle.sound.specs.Sound.{list_at, SoundWith, LeavesWith}
-use Rattle.sound.specs.Changes.{SoundWithSet, LeavesWithSet, has, has_length, has_part, length_list, list_empty, written, grew}
+use Rattle.sound.proofs.Changes.{SoundWithSet, LeavesWithSet, has, has_length, has_part, length_list, list_empty, written, grew}
 use Rattle.sound.specs.Sequences.{insert_all, open_at}
 use Rattle.sound.specs.ListEffects.{behind}
-use Rattle.sound.specs.Behind.{behind_is}
-use Rattle.sound.specs.SequenceLaws.{length_insert, sets_end, sets_open, sets_insert}
+use Rattle.sound.proofs.Behind.{behind_is}
+use Rattle.sound.proofs.SequenceLaws.{length_insert, sets_end, sets_open, sets_insert}
 
 module _ {st : ListPool} {ws hs : List ℕ} {ls : List (List ℕ)} {slot : ℕ} {l : List ℕ} (L : SoundWithSet st ws hs ls slot l) where
   -- the list grows and the places at its end are filled

@@ -18,10 +18,10 @@ use Rattle.pool.specs.Rules.{Outcome, len_of, done, seated, cleared, grown}
 use Rattle.pool.specs.Steps.{ListAt, Ready}
 use Rattle.pool.proofs.Facts.{list_at_lem}
 use Rattle.sound.specs.Sound.{over, list_of, lists, list_at, SoundWith}
-use Rattle.sound.specs.Sums.{over_in, over_part}
-use Rattle.sound.specs.SoundBut.{span, span_over, SoundBut, held_sound, sound_held, held_write, run_ext, length_none, length_some}
-use Rattle.sound.specs.HandOver.{held_out, held_in}
-use Rattle.sound.specs.Steps.{get_or_sets_other, own, moved_resized, free_gave}
+use Rattle.sound.proofs.Sums.{over_in, over_part}
+use Rattle.sound.proofs.SoundBut.{span, span_over, SoundBut, held_sound, sound_held, held_write, run_ext, length_none, length_some}
+use Rattle.sound.proofs.HandOver.{held_out, held_in}
+use Rattle.sound.proofs.Steps.{get_or_sets_other, own, moved_resized, free_gave}
 
 -- THE TABLE OF LISTS
 

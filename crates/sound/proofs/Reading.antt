@@ -12,8 +12,8 @@ use Rattle.pool.specs.Numbers.{◌or_else◌, handle_at, length_at, given, entry
 use Rattle.pool.specs.Rules.{is_empty, len, is_valid, get, first, push, len_of, done, refused, number_of, done_of, unless, called}
 use Rattle.pool.specs.Rules.{at_number, is_empty_done, len_done, is_valid_done, get_done, push_done, part}
 use Rattle.sound.specs.Sound.{list_at, SoundWith}
-use Rattle.sound.specs.Changes.{list_is, list_element, length_list, length_lists}
-use Rattle.sound.specs.Refusals.{entry_is, empty_is}
+use Rattle.sound.proofs.Changes.{list_is, list_element, length_list, length_lists}
+use Rattle.sound.proofs.Refusals.{entry_is, empty_is}
 
 module _ {st : ListPool} {ws hs : List ℕ} {ls : List (List ℕ)} (P : SoundWith st ws hs ls) where
   named : {slot : ℕ} → slot < length hs → entry_number st.used ws hs slot ≡ 0

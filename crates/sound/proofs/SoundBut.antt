@@ -15,7 +15,7 @@ use Rattle.pool.specs.Numbers.{pool_limit, head_of, handle_at, length_at, sound_
 use Rattle.pool.specs.Facts.{Within, Live, Head}
 use Rattle.pool.proofs.Facts.{handle_facts, head_facts}
 use Rattle.sound.specs.Sound.{sum, over, live_over, free_over, Chain, Sound, list_of, lists}
-use Rattle.sound.specs.Sums.{over_in, over_pos, over_le, sum_ge, sum_cong}
+use Rattle.sound.proofs.Sums.{over_in, over_pos, over_le, sum_ge, sum_cong}
 
 -- a block that a call holds
 pub record Span : Type 0 where

@@ -3,7 +3,7 @@ use Rattle.std.specs.Prelude.{◌≡◌, refl, List, [], ◌∷◌, ℕ, zero, s
 use Rattle.std.proofs.Common.{◌∙◌, arith}
 use Rattle.std.proofs.Math.Decide.{dec_lt}
 use Rattle.sound.specs.Sound.{sum, over}
-use Rattle.sound.specs.Sums.{over_in, over_left, over_right}
+use Rattle.sound.proofs.Sums.{over_in, over_left, over_right}
 
 -- f 0 + .. + f (n - 1)
 unfoldable pub upto : ℕ → (ℕ → ℕ) → ℕ

@@ -12,9 +12,9 @@ use Rattle.pool.specs.Numbers.{handle_at, entry_number}
 use Rattle.pool.specs.Rules.{len_of, part, set_at, take, number_of, done_of, take_number, set_done, take_done}
 use Rattle.pool.proofs.Facts.{at_facts, given_zero, neither, else_first, else_second, entry_facts, entry_facts₂, handle_facts}
 use Rattle.sound.specs.Sound.{list_of, list_at, SoundWith, LeavesWith}
-use Rattle.sound.specs.SoundBut.{SoundBut}
-use Rattle.sound.specs.HandOver.{held_out, held_in}
-use Rattle.sound.specs.Changes.{lists_set, lists_clear, holds, held, list_of_lem, length_list, has, written}
+use Rattle.sound.proofs.SoundBut.{SoundBut}
+use Rattle.sound.proofs.HandOver.{held_out, held_in}
+use Rattle.sound.proofs.Changes.{lists_set, lists_clear, holds, held, list_of_lem, length_list, has, written}
 
 module _ {st : ListPool} {ws hs : List ℕ} {ls : List (List ℕ)} (P : SoundWith st ws hs ls) where
   -- "set one"

@@ -14,11 +14,11 @@ use Rattle.pool.specs.Rules.{len_of, done, seated, deep_clone, copy_from, number
 use Rattle.pool.specs.Rules.{deep_clone_number, copy_from_number, deep_clone_done, copy_from_done}
 use Rattle.pool.proofs.Facts.{given_zero, neither, else_first, else_second, entry_facts₂, ready, ready_empty}
 use Rattle.sound.specs.Sound.{list_at, SoundWith, LeavesWith}
-use Rattle.sound.specs.Changes.{SoundWithSet, LeavesWithSet, has, other_part, length_list, list_here, list_empty, written, grew}
+use Rattle.sound.proofs.Changes.{SoundWithSet, LeavesWithSet, has, other_part, length_list, list_here, list_empty, written, grew}
 use Rattle.sound.specs.Sequences.{insert_all, open_at, range}
-use Rattle.sound.specs.SequenceLaws.{length_insert, sets_end, sets_insert}
+use Rattle.sound.proofs.SequenceLaws.{length_insert, sets_end, sets_insert}
 use Rattle.sound.specs.ListEffects.{behind}
-use Rattle.sound.specs.Grow.{opens}
+use Rattle.sound.proofs.Grow.{opens}
 
 -- no other handle changes where a list grows
 grown_other : (st : ListPool) (ws hs : List ℕ) (slot count other : ℕ) → (other ≡ slot → ⊥)
