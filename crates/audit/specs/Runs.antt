@@ -1,6 +1,6 @@
 -- Any sequence of calls and audits from a cleared pool, with writes to list elements in between by anybody, ends sound and accepted.
 use Rattle.std.specs.Prelude.{◌≡◌, List, ℕ, ◌+◌, ◌/◌, ◌≤◌, ◌<◌, length, set}
-use Rattle.std.proofs.Common.{sym, ap}
+use Rattle.std.proofs.Common.{ap}
 use Rattle.pool.specs.declared.Answer.{Answer}
 use Rattle.pool.specs.declared.ListPool.{ListPool}
 use Rattle.pool.specs.declared.Part.{Part}

@@ -1,4 +1,6 @@
 // The audit: given any pool, heads and handles, it says whether the pool is sound, and in which block each group of four words lies.
+#![tactic(auto)]
+
 ghost use Rattle.std.specs.Prelude.{◌≡◌, ◌+◌, ◌*◌, ◌/◌, ◌^◌, ◌≤◌, ◌<◌, length, take};
 ghost use Rattle.sizes.specs.Class.{class_count};
 ghost use Rattle.pool.specs.Numbers.{pool_limit, state_of, table_limit};

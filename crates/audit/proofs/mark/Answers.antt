@@ -1,0 +1,24 @@
+-- `mark` meets its contract: refused where the group is marked already, else one word is stored.
+use Prim.Native.Nat.{◌+◌}
+use mathlib.Core.Path.{refl}
+use native.Mathlib.Omega.{arith}
+use lib.ListN.{get_or}
+use lib.Seq.{drop-set-lt}
+use borrow.Author.Tests.{eq-eqb, ne_eqb}
+use Rattle.audit.specs.Audit.{group_of, marked}
+use Rattle.audit.proofs.mark.Goals as goal
+
+pub returns-then-map-g-ne0 : goal.returns-then-map-g-ne0
+unfolding marked
+returns-then-map-g-ne0 c =
+    let a = c.args in
+    record { is = rw (ne_eqb (get_or a.map.now (group_of a.h) 0) 0 c.if-map-g-ne0.true); rest = refl }
+
+pub returns : goal.returns
+unfolding marked
+returns c =
+    let a = c.args in
+    record {
+      is = rw (eq-eqb (get_or a.map.now (group_of a.h) 0) 0 c.if-map-g-ne0.false);
+      rest = drop-set-lt (group_of a.h + 1) a.map.now (group_of a.h) a.word (omega arith);
+    }
