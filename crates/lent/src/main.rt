@@ -1,12 +1,14 @@
 // Runs `as_mut_slice`, whose contract says where the part lies and what it holds, and nothing of the pool's other words. Each case lends a copy of its
 // pool and of its table, reads the part or writes over it, and compares every word and handle once the loan has ended. A line for each group of cases,
 // `ok`, or `wrong` where a part is another list than the case's, or a word or handle another than it should be.
+#![tactic(auto)]
+
 ghost use Rattle.std.specs.Prelude.{◌≤◌, length};
 
-use libc::STDOUT_FILENO;
 use pool::ListPool;
 use pool::checks::{POOL_LIMIT, TABLE_LIMIT};
 use sizes::SizeClass;
+use std::io;
 
 // The largest word.
 const M: u32 = 4294967295;
@@ -161,13 +163,18 @@ fn lends_none_at(counts: &[u32], pool: &[u32], handles: &[u32]) -> bool {
 }
 
 // Writes a group's line.
-fn say(group: &[u8], ok: bool) {
-    io::write_all(STDOUT_FILENO, group);
+fn say(rt: &impl Print, group: &[u8], ok: bool) -> io::Result<()> {
+    rt.write_all(group)?;
     if ok {
-        io::write_all(STDOUT_FILENO, b" ok\n");
-    } else {
-        io::write_all(STDOUT_FILENO, b" wrong\n");
+        return rt.write_all(
+            b" ok
+",
+        );
     }
+    rt.write_all(
+        b" wrong
+",
+    )
 }
 
 // Writes its place to each word of a pool, so that no two words that no call has written are equal.
@@ -211,11 +218,11 @@ fn emptied(pool: &mut [u32], handles: &mut [u32]) -> ListPool {
 
 // Fills the pool and the table of the groups. Slots 0, 1 and 3 have lists, in the blocks at 0, 4 and 16; the block at 32 is free, and the one at 12,
 // which is next on its chain; the words from 36 on are not used.
-fn filled(pool: &mut [u32], handles: &mut [u32]) {
+fn filled(rt: &impl Print, pool: &mut [u32], handles: &mut [u32]) -> io::Result<()> {
     let s = emptied(pool, handles);
     let heads = s.heads;
     let ok = s.used == 36 && same(&heads, &[33]) && same(handles, &[1, 5, 0, 17, 0]);
-    say(b"filled", ok);
+    say(rt, b"filled", ok)
 }
 
 // Runs a pool that begins as this one and has one word more than it may have.
@@ -238,45 +245,45 @@ fn over_table(pool: &[u32], handles: &[u32]) -> bool
 }
 
 // Runs number 1: used above the pool's length, or not a multiple of 4; pool or table over its limit.
-fn refused_1(pool: &[u32], handles: &[u32])
+fn refused_1(rt: &impl Print, pool: &[u32], handles: &[u32]) -> io::Result<()>
     requires { (length pool.now ≤ 64) × (length handles.now ≤ 5) }
 {
     let counts = [65, 68, M - 3, M, 1, 2, 3, 33, 34, 35, 37];
     let ok = lends_none_at(&counts, pool, handles)
         && over_pool(pool, handles)
         && over_table(pool, handles);
-    say(b"refused 1", ok);
+    say(rt, b"refused 1", ok)
 }
 
 // Runs number 2: slots past the last, up to the largest; a table without slots, and a pool without words beside.
-fn refused_2(pool: &[u32], handles: &[u32]) {
+fn refused_2(rt: &impl Print, pool: &[u32], handles: &[u32]) -> io::Result<()> {
     let ok = lends_none(36, pool, handles, 5, 16)
         && lends_none(36, pool, handles, 4294967295, 4294967301)
         && lends(false, 36, pool, handles, 18446744073709551615, 0, &[])
         && lends_none(36, pool, &[], 0, 3)
         && lends_none(0, &[], &[], 0, 3);
-    say(b"refused 2", ok);
+    say(rt, b"refused 2", ok)
 }
 
 // Runs number 3: handles that do not leave 1 on division by 4; that are not below used, in the pool and past it; that have the length 0 before them; whose
 // block ends past used, in the pool and past it. Then lists of the table where fewer words are used, and in a pool without words.
-fn refused_3(pool: &[u32], handles: &[u32]) {
+fn refused_3(rt: &impl Print, pool: &[u32], handles: &[u32]) -> io::Result<()> {
     let ok = lends_none(36, pool, &[2, 3, 4, M - 3, M - 1, M], 0, 6)
         && lends_none(36, pool, &[37, 61, 65, 65537, M - 2], 0, 5)
         && lends_none(36, pool, &[13, 33, 25, 21, 29], 0, 5)
         && lends_none_at(&[0], pool, handles)
         && lends_none_at(&[4, 8], pool, &[5, 17])
         && lends_none_at(&[0], &[], &[1, 5]);
-    say(b"refused 3", ok);
+    say(rt, b"refused 3", ok)
 }
 
 // Runs handle 0: the empty slots of the table; slots where no word is used, and where there is none.
-fn empty(pool: &[u32], handles: &[u32]) {
+fn empty(rt: &impl Print, pool: &[u32], handles: &[u32]) -> io::Result<()> {
     let ok = lends_none(36, pool, handles, 2, 3)
         && lends_none(36, pool, handles, 4, 5)
         && lends_none(0, pool, &[0, 0, 0], 0, 3)
         && lends_none(0, &[], &[0, 0, 0], 0, 3);
-    say(b"empty", ok);
+    say(rt, b"empty", ok)
 }
 
 // Runs the lists of the table.
@@ -329,26 +336,26 @@ fn longest(write: bool) -> bool {
 }
 
 // Runs the parts that have words, to be read or to be written over.
-fn done(group: &[u8], write: bool, pool: &[u32], handles: &[u32])
+fn done(rt: &impl Print, group: &[u8], write: bool, pool: &[u32], handles: &[u32]) -> io::Result<()>
     requires { (length pool.now ≤ 64) × (length handles.now ≤ 5) }
 {
     let ok = lists(write, pool, handles)
         && more_lists(write, pool, handles)
         && long(write, pool, handles)
         && longest(write);
-    say(group, ok);
+    say(rt, group, ok)
 }
 
 // Runs the groups in order.
-fn main() {
+fn main(rt: HostRuntime) -> io::Result<()> {
     let mut pool = [0u32; 64];
     let mut handles = [0u32; 5];
     places(&mut pool);
-    filled(&mut pool, &mut handles);
-    refused_1(&pool, &handles);
-    refused_2(&pool, &handles);
-    refused_3(&pool, &handles);
-    empty(&pool, &handles);
-    done(b"done", false, &pool, &handles);
-    done(b"written", true, &pool, &handles);
+    filled(&rt, &mut pool, &mut handles)?;
+    refused_1(&rt, &pool, &handles)?;
+    refused_2(&rt, &pool, &handles)?;
+    refused_3(&rt, &pool, &handles)?;
+    empty(&rt, &pool, &handles)?;
+    done(&rt, b"done", false, &pool, &handles)?;
+    done(&rt, b"written", true, &pool, &handles)
 }

@@ -1,5 +1,7 @@
 // The interface for C, which include/maaliskur.h declares: a slice is there a pointer and then a length. Each function only forwards, and its contract
 // is that of the call that it forwards to; `maaliskur_size` gives the size in 32 bits, by a contract of its own.
+#![tactic(auto)]
+
 ghost use Rattle.std.specs.Prelude.{◌≡◌};
 ghost use Rattle.sizes.specs.Class.{ClassOf};
 ghost use Rattle.pool.specs.Rules as rules;

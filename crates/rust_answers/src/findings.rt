@@ -1,5 +1,5 @@
 // What is found in a line, and how it is said.
-use libc::STDOUT_FILENO;
+use std::io;
 
 // A fault of the list.
 pub const NUMERAL: u32 = 1;
@@ -34,7 +34,7 @@ pub const WORD: u32 = 14;
 pub const AUDIT: u32 = 15;
 
 // Nothing (0), a fault of the list, or what differs, at which index, with both values.
-#[derive(Drop)]
+#[derive(Clone, Copy)]
 pub struct Finding {
     pub what: u32,
     pub at: usize,
@@ -68,68 +68,74 @@ pub fn differs(what: u32, at: usize, ours: u32, rust: u32) -> Finding {
 }
 
 // Writes bytes to standard output.
-fn put(bytes: &[u8]) {
-    io::write_all(STDOUT_FILENO, bytes);
+fn put(rt: &impl Print, bytes: &[u8]) -> io::Result<()> {
+    rt.write_all(bytes)
 }
 
 // Writes a number to standard output.
-fn put_number(n: u64) {
-    io::print_decimal(STDOUT_FILENO, n);
+fn put_number(rt: &impl Print, n: u64) -> io::Result<()> {
+    print!(rt; "{n}")
 }
 
 // Names what is wrong or differs.
-fn put_name(what: u32) {
+fn put_name(rt: &impl Print, what: u32) -> io::Result<()> {
     match what {
-        NUMERAL => put(b"no decimal number of 32 bits where one is expected"),
-        LINE_END => put(b"the input ends before the line does"),
-        SPACE => put(b"neither a space nor a line end after a number"),
-        LONG => put(b"more numbers than a line may have"),
-        SHORT => put(b"fewer numbers than the call, its arguments and its value"),
-        CALL => put(b"no call of this code takes so many arguments"),
-        CHANGES => put(b"a change is not three numbers, or not of cells that there are"),
-        SIZES => put(b"more words or slots than this program can lend"),
-        NUMBER => put(b"number"),
-        VALUE => put(b"value"),
-        USED => put(b"used"),
-        HEAD => put(b"head "),
-        HANDLE => put(b"handle "),
-        WORD => put(b"word "),
-        _ => put(b"the audit's number"),
+        NUMERAL => put(rt, b"no decimal number of 32 bits where one is expected"),
+        LINE_END => put(rt, b"the input ends before the line does"),
+        SPACE => put(rt, b"neither a space nor a line end after a number"),
+        LONG => put(rt, b"more numbers than a line may have"),
+        SHORT => put(
+            rt,
+            b"fewer numbers than the call, its arguments and its value",
+        ),
+        CALL => put(rt, b"no call of this code takes so many arguments"),
+        CHANGES => put(
+            rt,
+            b"a change is not three numbers, or not of cells that there are",
+        ),
+        SIZES => put(rt, b"more words or slots than this program can lend"),
+        NUMBER => put(rt, b"number"),
+        VALUE => put(rt, b"value"),
+        USED => put(rt, b"used"),
+        HEAD => put(rt, b"head "),
+        HANDLE => put(rt, b"handle "),
+        WORD => put(rt, b"word "),
+        _ => put(rt, b"the audit's number"),
     }
 }
 
 // Says what was found in a line.
-pub fn say(line: u64, found: Finding) {
-    put(b"line ");
-    put_number(line);
-    put(b": ");
-    put_name(found.what);
+pub fn say(rt: &impl Print, line: u64, found: Finding) -> io::Result<()> {
+    put(rt, b"line ")?;
+    put_number(rt, line)?;
+    put(rt, b": ")?;
+    put_name(rt, found.what)?;
     if found.what >= NUMBER {
         if found.what >= HEAD && found.what <= WORD {
-            put_number(found.at as u64);
+            put_number(rt, found.at as u64)?;
         }
-        put(b" is ");
-        put_number(found.ours as u64);
-        put(b", the Rust has ");
-        put_number(found.rust as u64);
+        put(rt, b" is ")?;
+        put_number(rt, found.ours as u64)?;
+        put(rt, b", the Rust has ")?;
+        put_number(rt, found.rust as u64)?;
     }
-    put(b"\n");
+    put(rt, b"\n")
 }
 
 // Says that all calls were as the Rust.
-pub fn say_all(calls: u64) {
-    put_number(calls);
-    put(b" calls, ");
-    put_number(calls);
-    put(b" as the Rust\n");
+pub fn say_all(rt: &impl Print, calls: u64) -> io::Result<()> {
+    put_number(rt, calls)?;
+    put(rt, b" calls, ")?;
+    put_number(rt, calls)?;
+    put(rt, b" as the Rust\n")
 }
 
 // Says that there is no input.
-pub fn say_nothing_read() {
-    put(b"the input is empty, or cannot be read\n");
+pub fn say_nothing_read(rt: &impl Print) -> io::Result<()> {
+    put(rt, b"the input is empty, or cannot be read\n")
 }
 
 // Says that the input does not fit.
-pub fn say_too_much() {
-    put(b"the input is longer than this program reads\n");
+pub fn say_too_much(rt: &impl Print) -> io::Result<()> {
+    put(rt, b"the input is longer than this program reads\n")
 }

@@ -1,12 +1,15 @@
 // Replays the fixed list of the Rust's answers, which standard input has: each line's call is made on the library, and what comes back and what it
 // leaves are compared with what the Rust gave and left. It says how many calls were as the Rust, or where and how the first one was not.
 // The list's format is in docs/RUST-ANSWERS.md.
-ghost use Rattle.std.specs.Prelude.{◌<◌, length};
+#![tactic(auto)]
 
-use libc::STDIN_FILENO;
+ghost use Rattle.std.specs.Prelude.{◌<◌, ◌≤◌, ◌^◌, length, IfOk};
+
 use pool::ListPool;
 use pool::checks::POOL_LIMIT;
 use sizes::SizeClass;
+use std::io;
+use std::io::Read;
 
 mod calls;
 mod compare;
@@ -26,7 +29,7 @@ const MOST_NUMBERS: usize = 4096;
 const MOST_SLOTS: usize = 16;
 
 // What calls are made on beside the lent arrays: the pool's state, and how many words and slots are lent.
-#[derive(Drop)]
+#[derive(Clone, Copy)]
 struct Bench {
     state: ListPool,
     words: usize,
@@ -34,14 +37,14 @@ struct Bench {
 }
 
 // What a line comes to: the state after its call, and what was found.
-#[derive(Drop)]
+#[derive(Clone, Copy)]
 struct Turn {
     bench: Bench,
     found: Finding,
 }
 
 // A turn, and where the next line starts.
-#[derive(Drop)]
+#[derive(Clone, Copy)]
 struct Stepped {
     turn: Turn,
     next: usize,
@@ -168,7 +171,13 @@ fn step(
 }
 
 // Replays the lines of a text, up to the first in which something is found, and says so, or how many there are.
-fn replay(text: &[u8], pool: &mut [u32], handles: &mut [u32], cells: &mut [u32]) {
+fn replay(
+    rt: &impl Print,
+    text: &[u8],
+    pool: &mut [u32],
+    handles: &mut [u32],
+    cells: &mut [u32],
+) -> io::Result<()> {
     let mut bench = Bench {
         state: ListPool {
             used: 0,
@@ -184,29 +193,48 @@ fn replay(text: &[u8], pool: &mut [u32], handles: &mut [u32], cells: &mut [u32])
         let s = step(bench, text, at, pool, handles, cells);
         let turn = s.turn;
         if turn.found.what != 0 {
-            findings::say(lines, turn.found);
-            return;
+            return findings::say(rt, lines, turn.found);
         }
         bench = turn.bench;
         at = s.next;
     }
-    findings::say_all(lines);
+    findings::say_all(rt, lines)
 }
 
-// Reads the list and replays it, on as many words as a pool may have.
-fn main() {
-    let mut text = [0u8; MOST_TEXT];
+// Reads until the buffer is full or the input ends, and returns how many bytes it read.
+fn read_full(input: &mut impl Read, buf: &mut [u8]) -> io::Result<usize>
+    ensures { IfOk result (λ n. n ≤ length buf.new) }
+{
+    let mut done = 0;
+    while done < buf.len() {
+        let n = input.read(&mut buf[done..])?;
+        if n == 0 {
+            break;
+        }
+        done += n;
+    }
+    Ok(done)
+}
+
+// Reads a list of fewer than MOST bytes and replays it, on as many words as a pool may have.
+fn replay_input<const MOST: usize>(rt: &impl Print, input: &mut impl Read) -> io::Result<()>
+    requires { MOST < 2 ^ 63 }
+{
+    let mut text = [0u8; MOST];
     let mut pool = [0u32; POOL_LIMIT];
     let mut handles = [0u32; MOST_SLOTS];
     let mut cells = [0u32; compare::WORDS + POOL_LIMIT];
-    let n = io::read_full(STDIN_FILENO, &mut text);
+    let n = read_full(input, &mut text)?;
     if n == 0 {
-        findings::say_nothing_read();
-        return;
+        return findings::say_nothing_read(rt);
     }
-    if n == MOST_TEXT {
-        findings::say_too_much();
-        return;
+    if n == MOST {
+        return findings::say_too_much(rt);
     }
-    replay(&text[..n], &mut pool, &mut handles, &mut cells);
+    replay(rt, &text[..n], &mut pool, &mut handles, &mut cells)
+}
+
+// Replays the list that standard input has.
+fn main(rt: HostRuntime) -> io::Result<()> {
+    replay_input::<MOST_TEXT>(&rt, &mut rt.stdin())
 }

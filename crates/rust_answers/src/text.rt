@@ -7,7 +7,7 @@ use super::findings;
 const MOST: u64 = 4294967295;
 
 // A number, where it ends, and whether there was one that fits 32 bits.
-#[derive(Drop)]
+#[derive(Clone, Copy)]
 struct Number {
     value: u32,
     end: usize,
@@ -15,7 +15,7 @@ struct Number {
 }
 
 // A line: how many numbers it has, where the next one starts, and what is wrong with it, or 0.
-#[derive(Drop)]
+#[derive(Clone, Copy)]
 pub struct Line {
     pub count: usize,
     pub next: usize,

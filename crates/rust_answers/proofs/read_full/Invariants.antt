@@ -1,0 +1,9 @@
+-- `rust_answers::read_full` is safe and ends: what is read lies in the buffer. The measure is what is left of it.
+use Rattle.std.proofs.Common.{◌≤◌, ◌-◌, length}
+use Rattle.rust_answers.proofs.read_full.Given as goal
+
+abbrev pub invariant-loop-done : goal.invariant-loop-done
+invariant-loop-done g l = l.done ≤ length l.buf
+
+abbrev pub decreases-loop-done : goal.decreases-loop-done
+decreases-loop-done g l = length l.initial.buf - l.done
