@@ -55,10 +55,10 @@ if have git && git rev-parse --git-dir >/dev/null 2>&1; then
 fi
 
 # ---- the archive, where it is older than a source, and the benchmark. No lock file stays behind: which versions there are is Debian's to say.
-archive=target/staticlib/libmaaliskur.a
-if [ ! -f "$archive" ] || [ -n "$(find crates crates.txt -newer "$archive")" ]; then
+archive=crates/maaliskur/out/libmaaliskur.a
+if [ ! -f "$archive" ] || [ -n "$(find crates crates.txt -name out -prune -o -type f -newer "$archive" -print)" ]; then
     say "proving and building the archive, some minutes"
-    rt staticlib maaliskur >"$out/archive.log" 2>&1 || { cat "$out/archive.log"; die "rt staticlib maaliskur failed"; }
+    (cd crates/maaliskur && rt lib) >"$out/archive.log" 2>&1 || { cat "$out/archive.log"; die "rt lib in crates/maaliskur failed"; }
 fi
 
 # Builds with cargo.

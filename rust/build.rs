@@ -1,5 +1,5 @@
 //! Tells the linker where libmaaliskur.a lies: in the folder that MAALISKUR_LIB_DIR names, or else
-//! where `rt staticlib maaliskur` writes it. Stops with what to do where it is not there.
+//! where `rt lib` writes it in the folder of the crate maaliskur. Stops with what to do where it is not there.
 
 use std::env;
 use std::path::{Path, PathBuf};
@@ -10,13 +10,13 @@ fn told(variable: &str) -> String {
     env::var(variable).unwrap_or_default()
 }
 
-/// The folder to search: the caller's, or this repository's `target/staticlib`.
+/// The folder to search: the caller's, or this repository's `crates/maaliskur/out`.
 fn folder() -> PathBuf {
     match env::var_os("MAALISKUR_LIB_DIR") {
         Some(folder) => PathBuf::from(folder),
         None => {
             let here = told("CARGO_MANIFEST_DIR");
-            Path::new(&here).parent().unwrap_or_else(|| Path::new(".")).join("target/staticlib")
+            Path::new(&here).parent().unwrap_or_else(|| Path::new(".")).join("crates/maaliskur/out")
         }
     }
 }
@@ -48,8 +48,8 @@ fn main() {
     if !archive.is_file() {
         stop(&format!(
             "maaliskur: there is no libmaaliskur.a in {}.\n\
-             Run `rt staticlib maaliskur` in the repository of maaliskur, which proves it and writes \
-             it to target/staticlib there,\n\
+             Run `rt lib` in crates/maaliskur of the repository of maaliskur, which proves it and \
+             writes it to out/ there,\n\
              or set MAALISKUR_LIB_DIR to the folder that it is in.",
             folder.display()
         ));

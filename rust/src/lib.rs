@@ -46,8 +46,8 @@
 //! assert_eq!(map, [0, 6]);
 //! ```
 //!
-//! To link, the crate needs the archive: `rt staticlib maaliskur` writes it to this repository's
-//! `target/staticlib`, and the environment variable `MAALISKUR_LIB_DIR` names any other folder.
+//! To link, the crate needs the archive: `rt lib` in the folder `crates/maaliskur` of this
+//! repository writes it to `out/` there, and the environment variable `MAALISKUR_LIB_DIR` names any other folder.
 //! The feature `std` makes a [`Refusal`] a `std::error::Error`.
 
 #![no_std]

@@ -34,13 +34,14 @@ unknown() { die "unknown word '$1'; --help says what it takes"; } # WORD
 # Refuses all words, for a script that takes none.
 no_words() { [ $# -eq 0 ] || unknown "$1"; } # WORDS..
 
-# Proves by the Rattle kit's command rt, and says of each crate that it is done. All that rt says goes to a log, which is shown where it fails.
-proving() { # LOG WORDS..
-    log=$1
-    shift
+# Proves a crate, and those that it uses, by the Rattle kit's command rt, and says of each that it is done. All that rt says goes to a log, which is
+# shown where it fails.
+proving() { # LOG CRATE WORDS..
+    log=$1 crate=$2
+    shift 2
     command -v rt >/dev/null || { say "no rt on the path: the Rattle kit's command, which proves and builds" && return 1; }
-    say "rt $*, which takes minutes the first time"
-    { rt "$@" 2>&1; echo "$?"; } | {
+    say "rt $* in crates/$crate, which takes minutes the first time"
+    { (cd "crates/$crate" && rt "$@") 2>&1; echo "$?"; } | {
         status=1
         while IFS= read -r line; do
             printf '%s\n' "$line"
