@@ -47,7 +47,8 @@
 //! ```
 //!
 //! To link, the crate needs the archive: `rt lib` in the folder `crates/maaliskur` of this
-//! repository writes it to `out/` there, and the environment variable `MAALISKUR_LIB_DIR` names any other folder.
+//! repository writes it to `out/` there, and the environment variable `MAALISKUR_LIB_DIR` names
+//! any other folder.
 //! The feature `std` makes a [`Refusal`] a `std::error::Error`.
 
 #![no_std]
