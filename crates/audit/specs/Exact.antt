@@ -282,7 +282,8 @@ module _ {st : ListPool} {ws hs : List ℕ} {fs : List (List ℕ)} (map : List �
       mark_pos (live slot) = omega arith
       mark_pos (free c k) = omega arith
 
-      go : ((p : Place) → Block hs fs p → start_of hs fs p ≢ g * 4) → (map_word st ws hs map g ≡ 0) ⊎ (0 < map_word st ws hs map g) → map_word st ws hs map g ≡ 0
+      go : ((p : Place) → Block hs fs p → start_of hs fs p ≢ g * 4) → (map_word st ws hs map g ≡ 0) ⊎ (0 < map_word st ws hs map g)
+          → map_word st ws hs map g ≡ 0
       go none-starts (inl z) = z
       go none-starts (inr u) = let (p, B, e, v) = map_says g l (omega arith) in absurd (none-starts p B e)
 

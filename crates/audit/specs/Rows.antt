@@ -3,13 +3,15 @@
 use Rattle.std.specs.Prelude.{ℕ, ◌≡◌, refl, List, [], ◌∷◌, ◌++◌, map, set, replicate}
 use Rattle.sizes.specs.Class.{class_count, class_of, size_of}
 use Rattle.words.specs.Runs.{filled, copied, stored}
-use Rattle.pool.specs.Numbers.{◌or_else◌, state_of, length_at, sound_handle, sound_head, given, too_long, over_limit, entry_number, entry_number₂, bad_head, no_room}
+use Rattle.pool.specs.Numbers.{◌or_else◌, state_of, length_at, sound_handle, sound_head, given, too_long, over_limit, entry_number, entry_number₂}
+use Rattle.pool.specs.Numbers.{bad_head, no_room}
 use Rattle.pool.specs.Numbers.{room_number, needs_block, need_number}
 use Rattle.pool.specs.Blocks.{recycled, fresh, alloc, free, realloc, moved}
 use Rattle.pool.specs.Rules.{Call, from_slice, is_empty, len, is_valid, get, first, set_at, deep_clone, clear, take, push, extend, copy_from, insert, remove}
 use Rattle.pool.specs.Rules.{swap_remove, truncate, grow_at, clear_pool, called, unless, number_of, done_of, cleared, last_removed, grown, opened, at_number}
-use Rattle.pool.specs.Rules.{take_number, from_slice_number, from_slice_done, is_empty_done, len_done, is_valid_done, get_done, set_done, deep_clone_number, deep_clone_done}
-use Rattle.pool.specs.Rules.{clear_done, take_done, grow_number, push_done, extend_done, grow_at_number, copy_from_number, copy_from_done, insert_done, remove_number}
+use Rattle.pool.specs.Rules.{take_number, from_slice_number, from_slice_done, is_empty_done, len_done, is_valid_done, get_done, set_done}
+use Rattle.pool.specs.Rules.{deep_clone_number, deep_clone_done, clear_done, take_done, grow_number, push_done, extend_done, grow_at_number}
+use Rattle.pool.specs.Rules.{copy_from_number, copy_from_done, insert_done, remove_number}
 use Rattle.pool.specs.Rules.{remove_done, swap_remove_done, truncate_number, truncate_done, grow_at_done, clear_pool_number, clear_pool_done}
 
 -- what a call is given beside its arguments, and what it leaves: used, the heads, the pool's words, the handles
@@ -23,11 +25,11 @@ pub data Row : Type 0 where
 -- the same row, with what the rules give
 unfoldable pub computed : Row → Row
 unfolding
-    called unless number_of done_of cleared last_removed grown opened at_number take_number from_slice_number from_slice_done is_empty_done len_done is_valid_done
-    get_done set_done deep_clone_number deep_clone_done clear_done take_done grow_number push_done extend_done grow_at_number copy_from_number copy_from_done insert_done
-    remove_number remove_done swap_remove_done truncate_number truncate_done grow_at_done clear_pool_number clear_pool_done ◌or_else◌ length_at sound_handle sound_head
-    given too_long over_limit entry_number entry_number₂ bad_head no_room room_number needs_block need_number recycled fresh alloc free realloc moved filled
-    copied stored class_of size_of
+    called unless number_of done_of cleared last_removed grown opened at_number take_number from_slice_number from_slice_done is_empty_done len_done
+    is_valid_done get_done set_done deep_clone_number deep_clone_done clear_done take_done grow_number push_done extend_done grow_at_number
+    copy_from_number copy_from_done insert_done remove_number remove_done swap_remove_done truncate_number truncate_done grow_at_done
+    clear_pool_number clear_pool_done ◌or_else◌ length_at sound_handle sound_head given too_long over_limit entry_number entry_number₂ bad_head
+    no_room room_number needs_block need_number recycled fresh alloc free realloc moved filled copied stored class_of size_of
 computed (row call (world used heads ws hs) number value after) =
     let o = called call (state_of used heads) ws hs in
     let st = o.answer.state in

@@ -93,7 +93,8 @@ module _ (used : ℕ) (ws : List ℕ) where
   chain_made zero c h m m' e = let (z, a) = cond_some (eqb h 0) e in ([], eqb-true h 0 z, cc)
   chain_made (suc most) c h m m' e = go (λ l. chain_made most c (get_or ws h 0) l m') (eq-zero-or-pos h)
     where
-      go : ((l : List ℕ) → chain_marked used ws most c (get_or ws h 0) l ≡ some m' → (bs : List ℕ) × Chain used ws c (get_or ws h 0) bs × Made (free_marks c bs) l m')
+      go : ((l : List ℕ) → chain_marked used ws most c (get_or ws h 0) l ≡ some m'
+          → (bs : List ℕ) × Chain used ws c (get_or ws h 0) bs × Made (free_marks c bs) l m')
           → (h ≡ 0) ⊎ (0 < h) → (bs : List ℕ) × Chain used ws c h bs × Made (free_marks c bs) m m'
       go rec (inl z) = let a : some m ≡ some m' = rw (eq-eqb h 0 z) at e in ([], z, cc)
       go rec (inr p) =

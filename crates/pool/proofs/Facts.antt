@@ -90,7 +90,8 @@ handle_facts used ws h e p =
     record { one = eqb-true _ _ d.0; below = ltb-true _ _ d.1; some = leb-true _ _ b.1; ends = leb-true _ _ a.1 }
 
 -- the list there
-pub list_at_lem : (used : ℕ) (ws : List ℕ) (h : ℕ) → used ≤ length ws → length ws ≤ pool_limit → sound_handle used ws h ≡ true → ListAt (length ws) h (length_at ws h)
+pub list_at_lem : (used : ℕ) (ws : List ℕ) (h : ℕ) → used ≤ length ws → length ws ≤ pool_limit → sound_handle used ws h ≡ true
+    → ListAt (length ws) h (length_at ws h)
 unfolding length_at
 list_at_lem used ws h below limit e = go (eq-zero-or-pos h)
   where
@@ -219,7 +220,8 @@ needs_where_class_changes old new some left short =
 
 -- THE NUMBERS OF CALLS: what a call may rely on that its number does not refuse
 
-pub at_facts : (used : ℕ) (ws hs : List ℕ) (slot position : ℕ) → at_number used ws hs slot position ≡ 0 → (Entered used ws hs slot) × (HasAt ws hs slot position)
+pub at_facts : (used : ℕ) (ws hs : List ℕ) (slot position : ℕ) → at_number used ws hs slot position ≡ 0
+    → (Entered used ws hs slot) × (HasAt ws hs slot position)
 unfolding at_number
 at_facts used ws hs slot position e =
     let f = entry_facts _ _ _ _ (else_first _ _ e) in
@@ -241,7 +243,8 @@ module _ (st : ListPool) (ws hs : List ℕ) where
       let e2 = else_second _ _ e in
       (ltb-false _ _ (given_zero 4 _ (omega arith) (else_first _ _ e2)), ready st ws hs _ _ (entry_facts _ _ _ _ (else_first _ _ e)) (else_second _ _ e2))
 
-  pub remove_facts : (slot position : ℕ) → remove_number st ws hs slot position ≡ 0 → (HasAt ws hs slot position) × (Ready st ws hs slot (len_of ws hs slot - 1))
+  pub remove_facts : (slot position : ℕ) → remove_number st ws hs slot position ≡ 0
+      → (HasAt ws hs slot position) × (Ready st ws hs slot (len_of ws hs slot - 1))
   unfolding remove_number
   remove_facts slot position e = let f = at_facts _ _ _ _ _ (else_first _ _ e) in (f.1, ready st ws hs _ _ f.0 (else_second _ _ e))
 

@@ -87,7 +87,8 @@ module _ (st : ListPool) (ws hs : List ℕ) where
 
   row_by_row : (call : Call) → number_of call st ws hs ≡ first_that (applies call st ws hs) order
   unfolding number_of first_that applies order judged any_of given ◌or_else◌ needs_block need_number
-      rules.from_slice_number rules.deep_clone_number rules.grow_number rules.copy_from_number rules.grow_at_number rules.truncate_number rules.clear_pool_number
+      rules.from_slice_number rules.deep_clone_number rules.grow_number rules.copy_from_number rules.grow_at_number rules.truncate_number
+      rules.clear_pool_number
   row_by_row (rules.from_slice slot xs) = one_slot slot (judged st ws hs (rules.from_slice slot xs))
   row_by_row (rules.is_empty slot) = sym (else_none _) ∙ one_slot slot (judged st ws hs (rules.is_empty slot))
   row_by_row (rules.len slot) = sym (else_none _) ∙ one_slot slot (judged st ws hs (rules.len slot))

@@ -53,7 +53,8 @@ module _ {st : ListPool} {ws hs : List ℕ} (h old new : ℕ) (H : SoundBut st w
           let K : SoundBut st ws hs (span (h - 1) (size_of (class_of old)) ∷ []) = rw (ne_eqb old 0 (omega arith)) at H in
           rw (ne_eqb old 0 (omega arith)) (
             refl,
-            λ j l q. (realloc_took (h - 1) (class_of old) (class_of new) (min old new + 1) K (can_realloc st (length ws) h old new can p e)).2 j (omega arith) q,
+            λ j l q.
+                (realloc_took (h - 1) (class_of old) (class_of new) (min old new + 1) K (can_realloc st (length ws) h old new can p e)).2 j (omega arith) q,
           )
 
   run_behind : (count : ℕ) → old + count ≤ new → take count (drop (to.block + 1 + old) to.words) ≡ take count (drop (got.block + 1 + old) got.words)

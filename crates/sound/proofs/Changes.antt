@@ -1,7 +1,8 @@
 -- The changes that calls are made of, each from a sound pool to a sound pool: elements of one list are written, one list gets another length,
 -- one list is cleared. Each changes the lists of the table as one equation says.
 use Rattle.std.specs.Prelude.{◌≡◌, refl, cond, List, [], ◌∷◌, ◌++◌, map, ◌⊎◌, get_or, set, take, drop, eqb}
-use Rattle.std.proofs.Common.{sym, ◌∙◌, append-nil, inl, inr, add-suc, add-sub_cancel, eq-zero-or-pos, arith, eq-eqb, ne_eqb, length-set, length-drop, take-append-drop, set-set, get_or-set_same, get_or-set_other, drop-set-lt, take_all, take-take}
+use Rattle.std.proofs.Common.{sym, ◌∙◌, append-nil, inl, inr, add-suc, add-sub_cancel, eq-zero-or-pos, arith, eq-eqb, ne_eqb, length-set, length-drop}
+use Rattle.std.proofs.Common.{take-append-drop, set-set, get_or-set_same, get_or-set_other, drop-set-lt, take_all, take-take}
 use Rattle.std.proofs.Math.Path.{ap}
 use Prim.Native.Nat.{ℕ, zero, suc, ◌+◌, ◌-◌, ◌≤◌, ◌<◌, min}
 use Rattle.std.proofs.Math.ListN.{length, length-map, get_or-map}

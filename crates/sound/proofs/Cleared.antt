@@ -44,7 +44,8 @@ lists_none ws zero = refl
 lists_none ws (suc n) = ap (λ (r : List (List ℕ)). [] ∷ r) (lists_none ws n)
 
 -- "clearing the pool empties all"
-pub clear_pool_holds : (st : ListPool) (ws hs : List ℕ) → number_of clear_pool st ws hs ≡ 0 → LeavesWith (done_of clear_pool st ws hs) (replicate (length hs) [])
+pub clear_pool_holds : (st : ListPool) (ws hs : List ℕ) → number_of clear_pool st ws hs ≡ 0
+    → LeavesWith (done_of clear_pool st ws hs) (replicate (length hs) [])
 unfolding number_of done_of clear_pool_number clear_pool_done lists too_long
 clear_pool_holds st ws hs e =
     let t = neither (given_zero 1 _ (omega arith) e) in

@@ -20,7 +20,8 @@ use Rattle.sound.proofs.Totals.{upto, upto_zero, upto_cong, upto_add, upto_sum, 
 use Rattle.sound.specs.CutProperties.{Place, live, free, Block, start_of, words_of, Lies, OnChain}
 
 -- a sum is at least any two of its summands
-sum_two {ℓ} : {A : Type ℓ} (f : ℕ → A → ℕ) (l : List A) (j k : ℕ) (d : A) → j ≢ k → j < length l → k < length l → f j (get_or l j d) + f k (get_or l k d) ≤ sum f l
+sum_two {ℓ} : {A : Type ℓ} (f : ℕ → A → ℕ) (l : List A) (j k : ℕ) (d : A) → j ≢ k → j < length l → k < length l
+    → f j (get_or l j d) + f k (get_or l k d) ≤ sum f l
 sum_two f l j k d ne g h = go (dec_lt j k)
   where
     go : Dec (j < k) → f j (get_or l j d) + f k (get_or l k d) ≤ sum f l

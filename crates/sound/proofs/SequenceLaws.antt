@@ -1,6 +1,7 @@
 -- The stores of a call in a sequence, run by run, come to what `Sequences` says of it.
 use Rattle.std.specs.Prelude.{◌≡◌, refl, List, ◌++◌, ℕ, ◌+◌, ◌-◌, ◌≤◌, ◌<◌, length, take, drop}
-use Rattle.std.proofs.Common.{ap, ◌∙◌, append-nil, append_assoc, arith, length-append, length-drop, drop_of_length-le, take_at, drop_at, take_all, length-take-le, take-add}
+use Rattle.std.proofs.Common.{ap, ◌∙◌, append-nil, append_assoc, arith, length-append, length-drop, drop_of_length-le, take_at, drop_at, take_all}
+use Rattle.std.proofs.Common.{length-take-le, take-add}
 use Rattle.std.proofs.lemmas.List.Edits.{sets, sets-eq}
 use Rattle.std.proofs.lemmas.List.{take-append-le, drop-append-le}
 use Rattle.sound.specs.Sequences.{insert_all, remove_at}

@@ -70,7 +70,8 @@ module _ {st : ListPool} {ws hs : List ℕ} {ls : List (List ℕ)} (P : SoundWit
           rw (back, set_comm hs slot to 0 h q) at I
 
   -- "move"
-  pub take_holds : (slot to : ℕ) → number_of (take slot to) st ws hs ≡ 0 → LeavesWith (done_of (take slot to) st ws hs) (set (set ls to (list_at ls slot)) slot [])
+  pub take_holds : (slot to : ℕ) → number_of (take slot to) st ws hs ≡ 0
+      → LeavesWith (done_of (take slot to) st ws hs) (set (set ls to (list_at ls slot)) slot [])
   unfolding number_of done_of take_number take_done
   take_holds slot to e =
       let (f, g) = entry_facts₂ st.used ws hs slot to (else_first _ _ e) in

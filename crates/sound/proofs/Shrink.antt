@@ -10,7 +10,8 @@ use Rattle.words.specs.Runs.{copied}
 use Rattle.words.specs.RunLaws.{length_take_drop}
 use Rattle.pool.specs.declared.ListPool.{ListPool}
 use Rattle.pool.specs.Numbers.{handle_at}
-use Rattle.pool.specs.Rules.{len_of, last_removed, clear, remove, swap_remove, truncate, number_of, done_of, clear_done, remove_done, swap_remove_done, truncate_done}
+use Rattle.pool.specs.Rules.{len_of, last_removed, clear, remove, swap_remove, truncate, number_of, done_of, clear_done, remove_done}
+use Rattle.pool.specs.Rules.{swap_remove_done, truncate_done}
 use Rattle.pool.specs.Steps.{Ready, resized}
 use Rattle.pool.proofs.Facts.{entry_facts, remove_facts, truncate_facts}
 use Rattle.pool.proofs.CallLaws.{last_resized, truncate_resized, truncate_none}

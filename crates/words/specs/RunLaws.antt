@@ -1,6 +1,7 @@
 -- Laws of runs: which word stands where after a run of stores, and how a run grows by a word at its end or at its start.
 use Rattle.std.specs.Prelude.{◌≡◌, refl, List, [], ◌∷◌, ◌++◌, ℕ, zero, suc, ◌+◌, ◌≤◌, ◌<◌, length, get_or, set, take, drop, replicate}
-use Rattle.std.proofs.Common.{◌∙◌, append-nil, add-zero, add-suc, suc-add, add-one, arith, length-set, length-take, length-drop, drop_of_length-le, get_or-set_other, get_or-set_same, get_or-take, get_or-drop, length-take-le, take-suc, drop-cons}
+use Rattle.std.proofs.Common.{◌∙◌, append-nil, add-zero, add-suc, suc-add, add-one, arith, length-set, length-take, length-drop, drop_of_length-le}
+use Rattle.std.proofs.Common.{get_or-set_other, get_or-set_same, get_or-take, get_or-drop, length-take-le, take-suc, drop-cons}
 use Rattle.std.proofs.lemmas.List.{length-replicate, get_or-replicate, set_comm}
 use Rattle.std.proofs.lemmas.List.Edits.{sets, sets-eq}
 use Rattle.std.proofs.Math.Seq.{length-sets}
@@ -27,7 +28,8 @@ get_or_sets_above ws at (x ∷ xs) k h = get_or_sets_above (set ws at x) (suc at
 -- a word within the run is what was stored
 pub get_or_sets_within : (ws : List ℕ) (at : ℕ) (xs : List ℕ) (i : ℕ) → i < length xs → at + i < length ws → get_or (sets ws at xs) (at + i) 0 ≡ get_or xs i 0
 get_or_sets_within ws at [] i h g = omega arith
-get_or_sets_within ws at (x ∷ xs) zero h g = rw add-zero (get_or_sets_below (set ws at x) (suc at) xs at (omega arith) ∙ get_or-set_same ws at x 0 (omega arith))
+get_or_sets_within ws at (x ∷ xs) zero h g =
+    rw add-zero (get_or_sets_below (set ws at x) (suc at) xs at (omega arith) ∙ get_or-set_same ws at x 0 (omega arith))
 get_or_sets_within ws at (x ∷ xs) (suc i) h g =
     rw (add-suc, ← suc-add)
     (get_or_sets_within (set ws at x) (suc at) xs i (omega arith) (simp length-set (omega arith)))
@@ -47,7 +49,8 @@ get_or_filled_within ws at n v i h g = get_or_sets_within ws at (replicate n v) 
 pub get_or_copied_within : (ws : List ℕ) (from to n i : ℕ) → i < n → from + n ≤ length ws → to + n ≤ length ws
     → get_or (copied ws from to n) (to + i) 0 ≡ get_or ws (from + i) 0
 unfolding copied
-get_or_copied_within ws from to n i h f t = get_or_sets_within ws to (take n (drop from ws)) i (rw length_take_drop h) (omega arith) ∙ get_or_take_drop ws from n i h
+get_or_copied_within ws from to n i h f t =
+    get_or_sets_within ws to (take n (drop from ws)) i (rw length_take_drop h) (omega arith) ∙ get_or_take_drop ws from n i h
 
 -- two runs end to end are one
 pub sets_append : (ws : List ℕ) (at : ℕ) (xs ys : List ℕ) → sets ws at (xs ++ ys) ≡ sets (sets ws at xs) (at + length xs) ys
@@ -66,7 +69,8 @@ set_sets_take ws at xs i h = rw (add-one, take-suc xs i 0 h, sets_append, length
 
 pub set_sets_drop : (ws : List ℕ) (at : ℕ) (xs : List ℕ) (i : ℕ) → i < length xs
     → set (sets ws (at + (i + 1)) (drop (i + 1) xs)) (at + i) (get_or xs i 0) ≡ sets ws (at + i) (drop i xs)
-set_sets_drop ws at xs i h = rw (add-one, drop-cons xs i 0 h, add-suc) (set_sets_below ws (suc (at + i)) (drop (suc i) xs) (at + i) (get_or xs i 0) (omega arith))
+set_sets_drop ws at xs i h =
+    rw (add-one, drop-cons xs i 0 h, add-suc) (set_sets_below ws (suc (at + i)) (drop (suc i) xs) (at + i) (get_or xs i 0) (omega arith))
 
 -- a run over every word
 pub filled_whole : (ws : List ℕ) (v : ℕ) → filled ws 0 (length ws) v ≡ replicate (length ws) v
