@@ -318,6 +318,7 @@ function believed_line(    cells, words, n, i) {
     for (i = 2; i <= n; i += 2) {
         check(citation(words[i], ""), here(), "`" words[i] "` is no citation")
         check(!(words[i] in believed), here(), words[i] " is listed twice")
+        check(words[i] !~ /^[a-z_0-9]+\.proofs\./, here(), words[i] " stands in a folder proofs, where laws stand and nothing that has to be believed")
         believed[words[i]] = here()
     }
 }
