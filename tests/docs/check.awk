@@ -82,9 +82,9 @@ function citation(token, column,    path, known, what) {
         if (column == "Call" || column ~ /^Contract/) check(what ~ / ensures/, here(), token " has no contract (ensures)")
         return 1
     }
-    if (token ~ /^[a-z_0-9]+\.[A-Z][A-Za-z]*\.[^ ]+$/) {
+    if (token ~ /^[a-z_0-9]+\.(proofs\.)?[A-Z][A-Za-z]*\.[^ ]+$/) {
         path = token
-        sub(/\./, "/specs/", path)
+        if (!sub(/\.proofs\./, "/proofs/", path)) sub(/\./, "/specs/", path)
         sub(/^/, "crates/", path)
         sub(/\..*/, ".antt", path)
         known = token in antt
@@ -113,10 +113,11 @@ function tokens(text, column, place,    words, n, i, found) {
 }
 
 # docs/ANSWER.md: a theorem is printed in a block of lines indented by four or more that begins with its name and a colon. These are, leading blanks and
-# pub apart, all the lines of its statement in the file of specs that the page named last, and it stands there in no module, which might assume more.
+# pub apart, all the lines of its statement in the file of specs or proofs that the page named last, and it stands there in no module, which might assume
+# more.
 function statement(    line) {
     line = $0
-    if (match(line, /crates\/[a-z_]+\/specs\/[A-Za-z]+\.antt/)) spec = substr(line, RSTART, RLENGTH)
+    if (match(line, /crates\/[a-z_]+\/(specs|proofs)\/[A-Za-z]+\.antt/)) spec = substr(line, RSTART, RLENGTH)
     if (!sub(/^     *(pub )?/, "", line)) {
         if (theorem != "") theorems += check(printed == stated[spec, theorem], theorem_place, spec " does not state " theorem " in just these lines")
         theorem = printed = ""
@@ -317,6 +318,7 @@ function believed_line(    cells, words, n, i) {
     for (i = 2; i <= n; i += 2) {
         check(citation(words[i], ""), here(), "`" words[i] "` is no citation")
         check(!(words[i] in believed), here(), words[i] " is listed twice")
+        check(words[i] !~ /^[a-z_0-9]+\.proofs\./, here(), words[i] " stands in a folder proofs, where laws stand and nothing that has to be believed")
         believed[words[i]] = here()
     }
 }

@@ -1,6 +1,7 @@
 # Lists what the files declare, a line each, its parts behind tabs:
 #
-#     antt    CITATION  pub|private  FILE  LINE         a definition or theorem of a crate's specs, cited as crate.File.name
+#     antt    CITATION  pub|private  FILE  LINE         a definition or theorem of a crate's specs, cited as crate.File.name, or of the files of laws
+#                                                         in its folder proofs, cited as crate.proofs.File.name
 #     rattle  CITATION  pub|private  FILE  LINE  KIND   what a crate's source declares, cited as crate::file::name or crate::name
 #     test    PATH::NAME                                a function of a test in Rust or C
 #
@@ -20,6 +21,7 @@ FNR == 1 {
     flush()
     split(FILENAME, part, "/")
     crate = part[2]
+    area = part[3]
     stem = part[4]
     sub(/\.[a-z]*$/, "", stem)
     type = ""
@@ -64,16 +66,18 @@ function antt(    words, n, i, exported, marked, indent, text) {
         i++
     }
     if (words[i] == "mod") {
-        module[crate, words[i + 1]] = exported
+        module[crate, area, words[i + 1]] = exported
         return
     }
+    # a set of rules to rewrite by, which nothing cites
+    if (words[i] == "ruleset") return
     if (words[i] == "record" || words[i] == "data") {
         if (words[i + 1] == "{") return
         in_record = 1
         record_indent = indent
         i++
     } else if (!marked && words[i + 1] != ":") return
-    print "antt", crate "." stem "." words[i], exported && module[crate, stem] ? "pub" : "private", FILENAME, FNR
+    print "antt", crate (area == "proofs" ? ".proofs." : ".") stem "." words[i], exported && module[crate, area, stem] ? "pub" : "private", FILENAME, FNR
     if (indent > 0 || words[i + 1] != ":") return
     stating = words[i]
     print "stated", FILENAME, stating, text

@@ -1,17 +1,23 @@
 # Lists what statements and definitions rest on, a line each, its parts behind tabs:
 #
-#     kind  CITATION  definition|theorem    a declaration of a crate's specs; a definition has one of the words abbrev, unfoldable, opaque, record, data
+#     kind  CITATION  definition|theorem    a declaration of a crate's specs, or of the files of laws in its folder proofs; a definition has one of the
+#                                           words abbrev, unfoldable, opaque, record, data
 #     says  CITATION  CITATION              the statement of the first (of a function: its contract) names the second
 #     made  CITATION  CITATION              the definition of the first names the second
-#     kit   CITATION  NAME  says|made       the statement, or the definition, of the first names this of the kit's library
+#     kit   CITATION  NAME  says|made       the statement, or the definition, of the first names this of the kit's library, a field behind a dot too
 #     unread  FILE:LINE  WHAT               what is not followed, so that it fails: an operator of three places or more, a `use` of all names
 #
 # It reads text and elaborates nothing. A name is looked for in its own file, then in what the file's `use` lines bring, under a new name or passed on by
 # `pub use` too. A statement has the parameters of the modules around it; a constructor stands for its data type; a struct is made of its fields' types.
 # A bound variable that has the name of a definition counts as that definition. What a field behind a dot, an implicit argument or a notation brings is not
-# seen, nor the prelude's names, which need no `use`, nor a constant in a field's type.
+# seen, nor the prelude's names, which need no `use`, nor a constant in a field's type. A field is the kit's where no record here has one of its name, and in
+# a contract where no struct has: these are the words and the place of a reference.
 
-BEGIN { OFS = "\t" }
+BEGIN {
+    OFS = "\t"
+    # the crates whose files are read: what is behind Rattle. and one of these is here, and all else the kit's
+    for (i = 1; i < ARGC; i++) if (split(ARGV[i], part, "/") > 2) here[part[2]] = 1
+}
 
 FNR == 1 {
     uses()
@@ -22,7 +28,7 @@ FNR == 1 {
     sub(/\.[a-z]*$/, "", stem)
     language = FILENAME
     sub(/.*\./, "", language)
-    file = crate (language == "rt" ? "::" : ".") stem
+    file = crate (language == "rt" ? "::" : part[3] == "proofs" ? ".proofs." : ".") stem
     modules = 0
     current = type = ""
 }
@@ -72,17 +78,22 @@ function unread(what) { print "unread", FILENAME ":" FNR, what }
 function last_of(path) { sub(/.*\./, "", path); return path }
 
 # How an item is cited from its path: by crate and file, by the crate whose code has it, or as the kit's. (A module's path ends with a dot.)
-function cited(path,    name) {
+function cited(path,    name, of) {
     name = last_of(path)
     sub(/\.[^.]*$/, "", path)
-    if (!sub(/^(package\.)?Rattle·/, "", path)) return "kit." name
-    return substr(path, 1, match(path, /[·.]/) - 1) (index(path, ".declared.") ? "::" : "." last_of(path) ".") name
+    if (!is_here(path)) return "kit." name
+    sub(/^Rattle\./, "", path)
+    of = substr(path, 1, index(path, ".") - 1)
+    return of (index(path, ".declared.") ? "::" : (index(path, ".proofs.") ? ".proofs." : ".") last_of(path) ".") name
 }
+
+# Is it a path to a file of one of the crates here?
+function is_here(path,    steps) { return split(path, steps, ".") > 2 && steps[1] == "Rattle" && steps[2] in here }
 
 # An operator is written without its places.
 function bare(name, declares) {
-    gsub(/^_+|_+$/, "", name)
-    if (declares && index(name, "_")) unread("an operator of three places or more")
+    gsub(/^(◌)+|(◌)+$/, "", name)
+    if (declares && index(name, "◌")) unread("an operator of three places or more")
     return name
 }
 
@@ -119,7 +130,7 @@ function antt(    words, n, i, indent, marked, what, name, text) {
     }
     what = words[i]
     if (what ~ /^(mod|infix[lr]?)$/) return
-    if (what == "unfolding") {
+    if (what == "unfolding" || what == "ruleset") {
         current = "-"
         own_indent = indent
         return
@@ -155,6 +166,7 @@ function add(line,    words, n) {
         n = split(line, words, " ")
         if (words[2] == ":") {
             if (state == "data") spelled[file, bare(words[1], 1)] = current
+            else is_field[words[1]] = 1
             sub(/^[^ ]+ +/, "", line)
         }
         made[current] = made[current] " " line
@@ -184,6 +196,11 @@ function rattle(    name, place) {
     }
     if (in_struct) {
         gsub(/\/\/.*|[][<>&]/, " ")
+        if (match($0, /^ *(pub )?[a-z_0-9]+:/)) {
+            name = substr($0, 1, RLENGTH - 1)
+            sub(/.* /, "", name)
+            is_field[name] = of_struct[name] = 1
+        }
         gsub(/(super|crate|self)::/, crate "::")
         made[in_struct] = made[in_struct] " " $0
         if ($0 ~ /[;}] *$/) in_struct = 0
@@ -206,14 +223,19 @@ function contract(line,    opened, closed) {
     clause += opened - closed
 }
 
-# The names of a text that are declarations of the specs, or structs that they cite, each once. What names a field is left out.
-function names(name, what, text,    words, seen, n, i, from, to) {
+# The names of a text that are declarations of the specs, or structs that they cite, each once, and the kit's fields. What names another field is left out.
+function names(name, what, text,    words, parts, seen, n, m, i, j, from, to) {
     from = name in of_file ? of_file[name] : name
     if (!(name in of_file)) sub(/\.[^.]*$/, "", from)
     gsub(/[{;] *[^ ;{}()]+ = /, " ", text)
     gsub(/[(){},;]/, " ", text)
     n = split(text, words, /[ \t]+/)
     for (i = 1; i <= n; i++) {
+        m = split(words[i], parts, ".")
+        if (m > 1 && !is_here(words[i]) && !((from, parts[1]) in short)) for (j = 2; j <= m; j++) {
+            if (parts[j] !~ /^[a-z]/ || (name in of_file ? parts[j] in of_struct : parts[j] in is_field) || seen["." parts[j]]++) continue
+            print "kit", name, parts[j], what
+        }
         if (words[i] == "" || words[i] ~ /^\./) continue
         sub(/\.$/, "", words[i])
         to = meant(from, words[i])
@@ -230,7 +252,7 @@ function meant(from, word,    to, head, tail) {
     if (word in of_file) return word
     if ((from, word) in spelled) return spelled[from, word]
     if ((from, word) in brought) to = brought[from, word]
-    else if (word ~ /^(package\.)?Rattle·/) to = cited(word)
+    else if (is_here(word)) to = cited(word)
     else if (!index(word, ".")) return ""
     else {
         head = tail = word
