@@ -166,15 +166,9 @@ fn lends_none_at(counts: &[u32], pool: &[u32], handles: &[u32]) -> bool {
 fn say(rt: &impl Print, group: &[u8], ok: bool) -> io::Result<()> {
     rt.write_all(group)?;
     if ok {
-        return rt.write_all(
-            b" ok
-",
-        );
+        return rt.write_all(b" ok\n");
     }
-    rt.write_all(
-        b" wrong
-",
-    )
+    rt.write_all(b" wrong\n")
 }
 
 // Writes its place to each word of a pool, so that no two words that no call has written are equal.

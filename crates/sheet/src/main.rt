@@ -42,15 +42,9 @@ fn answers(a: Answer, number: u32, value: u32, used: u32, heads: &[u32]) -> bool
 fn say(rt: &impl Print, row: &[u8], ok: bool) -> io::Result<()> {
     rt.write_all(row)?;
     if ok {
-        return rt.write_all(
-            b" ok
-",
-        );
+        return rt.write_all(b" ok\n");
     }
-    rt.write_all(
-        b" wrong
-",
-    )
+    rt.write_all(b" wrong\n")
 }
 
 // Returns the state of a cleared pool.
