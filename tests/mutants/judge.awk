@@ -17,7 +17,11 @@ part == 2 {
     next
 }
 /^fn / { name = $0; gsub(/^fn |: .*/, "", name); sub(/.*::/, "", name); said[name] = $0 }
-/^src\/[a-z_]*\.rt:[0-9]*:.*: error/ && match($0, /:[0-9]*:/) && (place = "crates/" crate "/" substr($0, 1, RSTART + RLENGTH - 1)) in line { named[line[place]]; again = 1 }
+/^src\/[a-z_]*\.rt:[0-9]*:[0-9]*: error/ {
+    match($0, /:[0-9]*:/)
+    place = "crates/" crate "/" substr($0, 1, RSTART + RLENGTH - 1)
+    if (place in line) { named[line[place]]; again = 1 }
+}
 # what fails where the proof is written, and what fails of the code where none is
 /: error/ {
     place = match($0, /[a-z_0-9]*\/[A-Z][A-Za-z]*\.antt:/) ? substr($0, RSTART, RLENGTH) : ""
@@ -26,16 +30,16 @@ part == 2 {
     note(place)
 }
 /^note: src\/.*: it is not proved that / {
-    split($2 == "" ? $0 : $1, part_of, ":")
-    place = owner("crates/" crate "/" substr(part_of[2], 2), part_of[3])
+    split($0, at, ":")
+    place = owner("crates/" crate "/" substr(at[2], 2), at[3])
     sub(/^note: [^ ]*: /, "")
     note(place)
 }
 /^logic=/ { all = status == 0 ? "proved" : "not proved" }
 /^rattle: no verdict/ { all = "open" }
 # The function that a line of a file belongs to.
-function owner(file, at,    k, s, name) {
-    while (k < at && (getline s <file) > 0) {
+function owner(file, number,    k, s, name) {
+    while (k < number && (getline s <file) > 0) {
         k++
         if (s ~ /^ *(pub )?fn /) { name = s; sub(/^ *(pub )?fn +/, "", name); sub(/[<(].*/, "", name) }
     }
@@ -45,18 +49,26 @@ function owner(file, at,    k, s, name) {
 function note(place) { noted(place); noted("any") }
 function noted(place) {
     if (!(place in first)) first[place] = $0
-    if (!(place in fact) && !shape($0) && !/was not admitted|was rejected|^it is not proved that [^;]*$/) fact[place] = $0
+    if (!(place in fact) && !shape($0) && !/was not admitted|was rejected/ && (!/^it is not proved/ || /allow values/)) fact[place] = $0
 }
 function shape(error) {
-    return error ~ /has no `[^`]*` that can be named|`rw`: no occurrence|`simp`: no equation|has no field|no field `|(more|fewer|too many|too few) arguments|is not a (function|record)/ ||
+    return error ~ /has no `[^`]*` that can be named|`rw`: no occurrence|`simp`: no equation/ ||
+        error ~ /has no field|no field `|(more|fewer|too many|too few) arguments|is not a (function|record)/ ||
         error ~ /expects? [0-9]+ arguments|expected type `tie\.|is not expected here|this pattern needs a function|: record `[^`]*`$|projection/
 }
 function outcome(i, place, says) {
     error = first[place]
     if (all == "") return n == 1 || i in named ? "no program" : again ? "again" : "alone"
     if (says ~ /proved$/ && says !~ /not proved$/) return n > 1 ? "alone" : all != "proved" ? "open" : key[i] in known ? known[key[i]] : "survived"
-    if (says !~ /not proved|no proof/) return "open"
+    if (says ~ /no proof: .*[^:]calls? / && n > 1) return "alone" # since what it calls is not proved
+    if (says !~ /not proved|no proof/) return n > 1 ? "alone" : "open"
     if (shape(error) && place in fact) { error = fact[place]; return "shape, fact" }
     return shape(error) ? "shape" : "refused"
 }
-END { if (status > 1) all = "open"; for (i = 1; i <= n; i++) { o = fn[i] ~ /^const / ? outcome(i, "any", all) : outcome(i, fn[i], said[fn[i]]); print o, substr(error, 1, 300), row[i] } }
+END {
+    if (status > 1) all = "open"
+    for (i = 1; i <= n; i++) {
+        o = fn[i] ~ /^const / ? outcome(i, "any", all) : outcome(i, fn[i], said[fn[i]])
+        print o, substr(error, 1, 300), row[i]
+    }
+}
