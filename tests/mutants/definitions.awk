@@ -2,12 +2,11 @@
 # before a line's `=`. What takes a token's place is something that the file has in scope.
 BEGIN {
     word = "^[^ (){};,.]+"
-    others("operator", "+ - *,- +,* + ^,/ * %,% /,^ *,min _+_")
+    others("operator", "+ - *,- +,* + ^,/ * %,% /,^ *,min ◌+◌")
     others("test", "ltb leb eqb,leb ltb eqb,eqb leb ltb,|| &&,&& ||")
     others("constant", "true false,false true")
 }
-FNR == 1 { scope = ""; proofs = 0 }
-/^-- THE RULES FOLLOW/ { proofs = 1 } # from here on NumberTable proves
+FNR == 1 { scope = "" }
 /^use / { scope = scope " " $0 " "; gsub(/[{},]/, " ", scope) }
 /^ *((unfoldable|abbrev) (pub )?[^ ]+ .*:|(pub )?(record|data) )/ {
     name = $0
@@ -16,12 +15,12 @@ FNR == 1 { scope = ""; proofs = 0 }
     n = left = 0
     next
 }
-!proofs && !/^ *(--|unfolding )|^(use|infix|module|open)|^ *$/ {
+!/^ *(--|unfolding )|^(use|infix|module|open)|^ *$/ {
     first = n + 1
     tokens($0, 1)
     for (i = first; i <= n; i = closing(i) + 1) {
         if (tok[i] ~ /^(=|in)$/) left = i + 1
-        if (tok[i] == "orElse" && left) { order(left, i); left = i + 1 }
+        if (tok[i] == "or_else" && left) { order(left, i); left = i + 1 }
         if (tok[i] == "=") first = i
     }
     for (i = first; i <= n; i++) {
@@ -30,11 +29,12 @@ FNR == 1 { scope = ""; proofs = 0 }
         if (tok[i] == "answer" && tok[i + 1] !~ /^[:=]$/) value(closing(i + 1) + 1)
         if (tok[i] ~ /^[0-9]+$/) number("constant", i)
         if (tok[i] in news) each(i)
+        if (tok[i] == "false" && !in_scope("true")) replace("constant", i, i, "(not false)")
     }
 }
 # two neighbours in a chain of numbers exchanged, the first from `left` on
 function order(left, i,    k) {
-    for (k = closing(i + 1); k < n && tok[k + 1] != "orElse"; k = closing(k + 1));
+    for (k = closing(i + 1); k < n && tok[k + 1] != "or_else"; k = closing(k + 1));
     exchange("order", left, i - 1, i + 1, k)
 }
 # the value of a call: a number for its neighbours, anything else for 0 and for one more

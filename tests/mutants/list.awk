@@ -48,7 +48,7 @@ function exchange(kind, a, b, c, d) { # the tokens a to b with c to d behind the
     put(c, d, span(a, b))
     replace(kind, a, b, span(c, d))
 }
-function in_scope(t) { return scope == "" || index(scope, " " t " ") || index(scope, " _" t "_ ") } # for code anything
+function in_scope(t) { return scope == "" || index(scope, " " t " ") || index(scope, " ◌" t "◌ ") } # for code anything
 function each(i,    m, new, k) { # a token for those that may take its place
     m = split(news[tok[i]], new, " ")
     for (k = 1; k <= m; k++) if (in_scope(new[k])) replace(kind_of[tok[i]], i, i, new[k])
