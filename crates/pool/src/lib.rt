@@ -25,7 +25,7 @@ mod writing;
 
 // The pool's state, a value that each call takes and hands back: how many words are used, and the head of each class's chain of free blocks.
 #[repr(C)]
-#[derive(Clone, Copy)]
+#[derive(Clone, Copy, Debug, Default, PartialEq, Eq)]
 pub struct ListPool {
     pub used: u32,
     pub heads: [u32; SizeClass::COUNT],
@@ -33,7 +33,7 @@ pub struct ListPool {
 
 // What a call answers: the number (0 where it is done), the value, and the next state.
 #[repr(C)]
-#[derive(Clone, Copy)]
+#[derive(Clone, Copy, Debug, Default, PartialEq, Eq)]
 pub struct Answer {
     pub number: u32,
     pub value: u32,
@@ -49,7 +49,7 @@ pub struct Taken {
 
 // Where the elements of a list lie in the pool.
 #[repr(C)]
-#[derive(Clone, Copy)]
+#[derive(Clone, Copy, Debug, Default, PartialEq, Eq)]
 pub struct Part {
     pub start: usize,
     pub end: usize,
