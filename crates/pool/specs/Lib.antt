@@ -1,3 +1,4 @@
+pub mod Refusals
 pub mod Numbers
 pub mod Blocks
 pub mod Rules

@@ -3,11 +3,10 @@
 use Rattle.std.specs.Prelude.{◌≡◌, ℕ, ◌+◌, ◌-◌, ◌≤◌, ◌<◌, true, cond, List, length, eqb}
 use Rattle.sizes.specs.Class.{longest, class_count, class_of, size_of}
 use Rattle.pool.specs.declared.ListPool.{ListPool}
-use Rattle.pool.specs.declared.Taken as code
-use Rattle.pool.specs.Numbers.{pool_limit, state_of, head_of, handle_at, needs_block}
+use Rattle.pool.specs.Numbers.{pool_limit, head_of, handle_at, needs_block}
 use Rattle.pool.specs.Blocks.{Taken, Freed, moved}
 use Rattle.pool.specs.declared.Answer.{Answer}
-use Rattle.pool.specs.Rules.{Call, Outcome, answer, outcome, called, cleared, len_of, seated}
+use Rattle.pool.specs.Rules.{Outcome, outcome, cleared, len_of, seated}
 
 -- a list of n elements at the handle h, in a pool of p words: it is empty at 0 and only there, and its block lies in the pool
 pub record ListAt (p h n : ℕ) : Type 0 where
@@ -65,12 +64,12 @@ pub record CanCopy (st : ListPool) (ws hs : List ℕ) (slot source start end pos
   pub named : source < length hs
   pub range : handle_at hs source + end ≤ length ws
 
--- the block that the code has taken, with the heads and the words it left, as the rules have it
-abbrev pub taken : code.Taken → List ℕ → List ℕ → Taken
-taken t heads ws = record { block = t.block; state = state_of t.used heads; words = ws }
+-- the block that the code has taken, with the state and the words it left, as the rules have it
+abbrev pub taken : ℕ → ListPool → List ℕ → Taken
+taken block st ws = record { block = block; state = st; words = ws }
 
-abbrev pub freed : ℕ → List ℕ → List ℕ → Freed
-freed used heads ws = record { state = state_of used heads; words = ws }
+abbrev pub freed : ListPool → List ℕ → Freed
+freed st ws = record { state = st; words = ws }
 
 -- the list of the old length at h gets the new one: it is cleared, or lies in the block for that
 unfoldable pub resized : ListPool → List ℕ → List ℕ → ℕ → ℕ → ℕ → ℕ → Outcome
@@ -82,10 +81,6 @@ pub record Meets (p : ℕ) (rule : Outcome) (slot n : ℕ) (r : Answer) (after t
   pub ends : handle_at tabled slot + n ≤ p
 
 -- a step did what the rule says, and the first k words of the block it took lie in the pool
-pub record Takes (p : ℕ) (rule : Taken) (k : ℕ) (t : code.Taken) (heads after : List ℕ) : Type 0 where
-  pub is : taken t heads after ≡ rule
-  pub ends : t.block + k ≤ p
-
--- the number and the deed of a call that leaves the state as it is and gives no value: of such a call they need the used count alone
-pub record Does (call : Call) (used : ℕ) (ws hs : List ℕ) (r : ℕ) (after tabled : List ℕ) : Type 0 where
-  pub whatever : (heads : List ℕ) → outcome (answer r 0 (state_of used heads)) after tabled ≡ called call (state_of used heads) ws hs
+pub record Takes (p : ℕ) (rule : Taken) (k : ℕ) (block : ℕ) (st : ListPool) (after : List ℕ) : Type 0 where
+  pub is : taken block st after ≡ rule
+  pub ends : block + k ≤ p

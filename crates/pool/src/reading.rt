@@ -4,7 +4,7 @@ ghost use Rattle.pool.specs.Rules as rules;
 ghost use Rattle.pool.specs.Rules.{called, outcome};
 ghost use Rattle.pool.specs.Parts.{LiesIn, PartOf};
 
-use super::{Answer, ListPool, Part, numbers, steps};
+use super::{Answer, ListPool, Part, numbers};
 
 impl ListPool {
     // Tells whether the list in a slot is empty: the value is 1 where it is, else 0.
@@ -12,14 +12,10 @@ impl ListPool {
         ensures { outcome result pool.now handles.now
             ≡ called (rules.is_empty slot) self pool.now handles.now }
     {
-        let number = numbers::entry_number(self.used, pool, handles, slot);
-        if number != 0 {
-            return steps::refused(self, number);
+        match self.check_entry(pool, handles, slot) {
+            Ok(()) => self.done(u32::from(handles[slot] == 0)),
+            Err(refusal) => self.refused(refusal),
         }
-        if handles[slot] == 0 {
-            return steps::done(self, 1);
-        }
-        steps::done(self, 0)
     }
 
     // Gives the number of elements of the list in a slot.
@@ -27,12 +23,10 @@ impl ListPool {
         ensures { outcome result pool.now handles.now
             ≡ called (rules.len slot) self pool.now handles.now }
     {
-        let number = numbers::entry_number(self.used, pool, handles, slot);
-        if number != 0 {
-            return steps::refused(self, number);
+        match self.check_entry(pool, handles, slot) {
+            Ok(()) => self.done(numbers::length_at(pool, handles[slot])),
+            Err(refusal) => self.refused(refusal),
         }
-        let len = numbers::length_at(pool, handles[slot]);
-        steps::done(self, len)
     }
 
     // Tells whether the list in a slot is valid: the value is 1, and a handle that is not locally sound is refused.
@@ -40,25 +34,26 @@ impl ListPool {
         ensures { outcome result pool.now handles.now
             ≡ called (rules.is_valid slot) self pool.now handles.now }
     {
-        let number = numbers::entry_number(self.used, pool, handles, slot);
-        if number != 0 {
-            return steps::refused(self, number);
+        match self.check_entry(pool, handles, slot) {
+            Ok(()) => self.done(1),
+            Err(refusal) => self.refused(refusal),
         }
-        steps::done(self, 1)
     }
 
     // Returns where the elements of the list in a slot lie: from start to end of the pool, and nothing, at 0, where reading it is refused.
     pub fn part(self, pool: &[u32], handles: &[u32], slot: usize) -> Part
         ensures { PartOf self pool.now handles.now slot result }
     {
-        if numbers::entry_number(self.used, pool, handles, slot) != 0 {
-            return Part { start: 0, end: 0 };
-        }
-        let h = handles[slot];
-        let start = h as usize;
-        Part {
-            start,
-            end: start + numbers::length_at(pool, h) as usize,
+        match self.check_entry(pool, handles, slot) {
+            Ok(()) => {
+                let h = handles[slot];
+                let start = h as usize;
+                Part {
+                    start,
+                    end: start + numbers::length_at(pool, h) as usize,
+                }
+            }
+            Err(_) => Part::default(),
         }
     }
 
@@ -66,9 +61,7 @@ impl ListPool {
     pub fn as_slice<'a>(self, pool: &'a [u32], handles: &[u32], slot: usize) -> &'a [u32]
         ensures { LiesIn self handles.now slot pool.entry result }
     {
-        let part = self.part(pool, handles, slot);
-        let start = part.start;
-        let end = part.end;
+        let Part { start, end } = self.part(pool, handles, slot);
         &pool[start..end]
     }
 
@@ -77,12 +70,10 @@ impl ListPool {
         ensures { outcome result pool.now handles.now
             ≡ called (rules.get slot position) self pool.now handles.now }
     {
-        let number = numbers::at_number(self.used, pool, handles, slot, position);
-        if number != 0 {
-            return steps::refused(self, number);
+        match self.check_at(pool, handles, slot, position) {
+            Ok(()) => self.done(pool[handles[slot] as usize + position]),
+            Err(refusal) => self.refused(refusal),
         }
-        let at = handles[slot] as usize + position;
-        steps::done(self, pool[at])
     }
 
     // Gives the first element of the list in a slot.

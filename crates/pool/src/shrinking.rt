@@ -1,125 +1,80 @@
 // The calls that make a list shorter or empty, and the pool's clear.
-ghost use Rattle.std.specs.Prelude.{◌≡◌, ◌-◌, min, length, replicate};
-ghost use Rattle.pool.specs.Numbers.{state_of};
+ghost use Rattle.std.specs.Prelude.{◌≡◌, ◌-◌, min};
 ghost use Rattle.pool.specs.Rules as rules;
-ghost use Rattle.pool.specs.Rules.{called, len_of, outcome};
+ghost use Rattle.pool.specs.Rules.{answer, called, len_of, outcome};
 ghost use Rattle.pool.specs.Steps.{HasAt, Ready};
 
-use super::{Answer, ListPool, checks, numbers, steps};
-use sizes::SizeClass;
-
-// Does a `clear`, and returns its number: gives up the block of the list, if it has one, where the number is 0.
-fn clear_list(
-    used: u32,
-    heads: &mut [u32; SizeClass::COUNT],
-    pool: &mut [u32],
-    handles: &mut [u32],
-    slot: usize,
-) -> u32
-    ensures { outcome (rules.answer result 0 (state_of used heads.new)) pool.new handles.new
-        ≡ called (rules.clear slot) (state_of used heads.old) pool.old handles.old }
-{
-    let number = numbers::entry_number(used, pool, handles, slot);
-    if number != 0 {
-        return number;
-    }
-    let h = handles[slot];
-    if h == 0 {
-        return 0;
-    }
-    let len = numbers::length_at(pool, h);
-    steps::release(heads, pool, handles, slot, h, len);
-    0
-}
-
-// Does a `remove`: shifts the elements behind the position down by one, and gives up the last place.
-fn remove_done(
-    state: ListPool,
-    pool: &mut [u32],
-    handles: &mut [u32],
-    slot: usize,
-    position: usize,
-) -> Answer
-    requires { (HasAt pool.old handles.old slot position)
-        × (Ready state pool.old handles.old slot (len_of pool.old handles.old slot - 1)) }
-    ensures { outcome result pool.new handles.new
-        ≡ rules.remove_done state pool.old handles.old slot position }
-{
-    let h = handles[slot];
-    let old = numbers::length_at(pool, h);
-    let at = h as usize + position;
-    words::shift_down(pool, at + 1, at, old as usize - (position + 1));
-    steps::resize(state, pool, handles, slot, h, old, old - 1)
-}
-
-// Does a `swap_remove`: exchanges the element with the last, and gives up the last place.
-fn swap_remove_done(
-    state: ListPool,
-    pool: &mut [u32],
-    handles: &mut [u32],
-    slot: usize,
-    position: usize,
-) -> Answer
-    requires { (HasAt pool.old handles.old slot position)
-        × (Ready state pool.old handles.old slot (len_of pool.old handles.old slot - 1)) }
-    ensures { outcome result pool.new handles.new
-        ≡ rules.swap_remove_done state pool.old handles.old slot position }
-{
-    let h = handles[slot];
-    let old = numbers::length_at(pool, h);
-    let at = h as usize + position;
-    let last = h as usize + (old as usize - 1);
-    let element = pool[at];
-    pool[at] = pool[last];
-    pool[last] = element;
-    steps::resize(state, pool, handles, slot, h, old, old - 1)
-}
-
-// Does a `truncate`: nothing where the new length is the old one or more, else it gives the list the new length; to 0 it clears.
-fn truncate_done(
-    state: ListPool,
-    pool: &mut [u32],
-    handles: &mut [u32],
-    slot: usize,
-    new: usize,
-) -> Answer
-    requires { Ready state pool.old handles.old slot (min (len_of pool.old handles.old slot) new) }
-    ensures { outcome result pool.new handles.new
-        ≡ rules.truncate_done state pool.old handles.old slot new }
-{
-    let h = handles[slot];
-    let old = numbers::length_at(pool, h);
-    if new >= old as usize {
-        return steps::done(state, 0);
-    }
-    steps::resize(state, pool, handles, slot, h, old, new as u32)
-}
-
-// Sets every handle to 0.
-fn empty(handles: &mut [u32])
-    ensures { handles.new ≡ replicate (length handles.old) 0 }
-{
-    let n = handles.len();
-    words::fill(handles, 0, n, 0);
-}
+use super::{Answer, ListPool, Refusal, checks, numbers};
 
 impl ListPool {
+    // Does a `remove`: shifts the elements behind the position down by one, and gives up the last place.
+    fn remove_done(&mut self, pool: &mut [u32], handles: &mut [u32], slot: usize, position: usize)
+        requires { (HasAt pool.old handles.old slot position)
+            × (Ready self.old pool.old handles.old slot (len_of pool.old handles.old slot - 1)) }
+        ensures { outcome (answer 0 0 self.new) pool.new handles.new
+            ≡ rules.remove_done self.old pool.old handles.old slot position }
+    {
+        let h = handles[slot];
+        let old = numbers::length_at(pool, h);
+        let at = h as usize + position;
+        words::copy(pool, at + 1, at, old as usize - (position + 1));
+        self.resize(pool, handles, slot, h, old, old - 1);
+    }
+
+    // Does a `swap_remove`: exchanges the element with the last, and gives up the last place.
+    fn swap_remove_done(
+        &mut self,
+        pool: &mut [u32],
+        handles: &mut [u32],
+        slot: usize,
+        position: usize,
+    )
+        requires { (HasAt pool.old handles.old slot position)
+            × (Ready self.old pool.old handles.old slot (len_of pool.old handles.old slot - 1)) }
+        ensures { outcome (answer 0 0 self.new) pool.new handles.new
+            ≡ rules.swap_remove_done self.old pool.old handles.old slot position }
+    {
+        let h = handles[slot];
+        let old = numbers::length_at(pool, h);
+        let first = h as usize;
+        pool.swap(first + position, first + (old as usize - 1));
+        self.resize(pool, handles, slot, h, old, old - 1);
+    }
+
+    // Does a `truncate`: nothing where the new length is the old one or more, else it gives the list the new length; to 0 it clears.
+    fn truncate_done(&mut self, pool: &mut [u32], handles: &mut [u32], slot: usize, new: usize)
+        requires { Ready self.old pool.old handles.old slot (min (len_of pool.old handles.old slot) new) }
+        ensures { outcome (answer 0 0 self.new) pool.new handles.new
+            ≡ rules.truncate_done self.old pool.old handles.old slot new }
+    {
+        let h = handles[slot];
+        let old = numbers::length_at(pool, h);
+        if new < old as usize {
+            self.resize(pool, handles, slot, h, old, new as u32);
+        }
+    }
+
     // Removes all elements from the list in a slot, and gives its block back.
     pub fn clear(mut self, pool: &mut [u32], handles: &mut [u32], slot: usize) -> Answer
         ensures { outcome result pool.new handles.new
             ≡ called (rules.clear slot) self pool.old handles.old }
     {
-        let number = clear_list(self.used, &mut self.heads, pool, handles, slot);
-        Answer {
-            number,
-            value: 0,
-            state: self,
+        match self.check_entry(pool, handles, slot) {
+            Ok(()) => {
+                let h = handles[slot];
+                if h != 0 {
+                    let len = numbers::length_at(pool, h);
+                    self.release(pool, handles, slot, h, len);
+                }
+                self.done(0)
+            }
+            Err(refusal) => self.refused(refusal),
         }
     }
 
     // Removes the element at a position of the list in a slot; those behind it shift down.
     pub fn remove(
-        self,
+        mut self,
         pool: &mut [u32],
         handles: &mut [u32],
         slot: usize,
@@ -128,16 +83,18 @@ impl ListPool {
         ensures { outcome result pool.new handles.new
             ≡ called (rules.remove slot position) self pool.old handles.old }
     {
-        let number = numbers::remove_number(self.used, &self.heads, pool, handles, slot, position);
-        if number != 0 {
-            return steps::refused(self, number);
+        match self.check_remove(pool, handles, slot, position) {
+            Ok(()) => {
+                self.remove_done(pool, handles, slot, position);
+                self.done(0)
+            }
+            Err(refusal) => self.refused(refusal),
         }
-        remove_done(self, pool, handles, slot, position)
     }
 
     // Removes the element at a position of the list in a slot; the last takes its place.
     pub fn swap_remove(
-        self,
+        mut self,
         pool: &mut [u32],
         handles: &mut [u32],
         slot: usize,
@@ -146,23 +103,33 @@ impl ListPool {
         ensures { outcome result pool.new handles.new
             ≡ called (rules.swap_remove slot position) self pool.old handles.old }
     {
-        let number = numbers::remove_number(self.used, &self.heads, pool, handles, slot, position);
-        if number != 0 {
-            return steps::refused(self, number);
+        match self.check_remove(pool, handles, slot, position) {
+            Ok(()) => {
+                self.swap_remove_done(pool, handles, slot, position);
+                self.done(0)
+            }
+            Err(refusal) => self.refused(refusal),
         }
-        swap_remove_done(self, pool, handles, slot, position)
     }
 
     // Shortens the list in a slot to the new length; does nothing where it is no longer than that.
-    pub fn truncate(self, pool: &mut [u32], handles: &mut [u32], slot: usize, new: usize) -> Answer
+    pub fn truncate(
+        mut self,
+        pool: &mut [u32],
+        handles: &mut [u32],
+        slot: usize,
+        new: usize,
+    ) -> Answer
         ensures { outcome result pool.new handles.new
             ≡ called (rules.truncate slot new) self pool.old handles.old }
     {
-        let number = numbers::truncate_number(self.used, &self.heads, pool, handles, slot, new);
-        if number != 0 {
-            return steps::refused(self, number);
+        match self.check_truncate(pool, handles, slot, new) {
+            Ok(()) => {
+                self.truncate_done(pool, handles, slot, new);
+                self.done(0)
+            }
+            Err(refusal) => self.refused(refusal),
         }
-        truncate_done(self, pool, handles, slot, new)
     }
 
     // Clears the pool: nothing is used, no block is free, and every list is empty. No word of the pool is touched.
@@ -171,15 +138,9 @@ impl ListPool {
             ≡ called (rules.clear_pool) self pool.now handles.old }
     {
         if checks::too_long(pool.len(), handles.len()) {
-            return steps::refused(self, 1);
+            return self.refused(Refusal::OverLimit);
         }
-        empty(handles);
-        steps::done(
-            ListPool {
-                used: 0,
-                heads: [0u32; SizeClass::COUNT],
-            },
-            0,
-        )
+        handles.fill(0);
+        ListPool::default().done(0)
     }
 }

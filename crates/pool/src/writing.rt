@@ -3,29 +3,8 @@ ghost use Rattle.std.specs.Prelude.{◌≡◌};
 ghost use Rattle.pool.specs.Rules as rules;
 ghost use Rattle.pool.specs.Rules.{called, outcome};
 ghost use Rattle.pool.specs.Parts.{LiesInMut};
-ghost use Rattle.pool.specs.Steps.{Does};
 
-use super::{Answer, ListPool, numbers};
-
-// Does a `set`, and returns its number: sets the element where the number is 0.
-fn set_element(
-    used: u32,
-    pool: &mut [u32],
-    handles: &[u32],
-    slot: usize,
-    position: usize,
-    element: u32,
-) -> u32
-    ensures { Does (rules.set_at slot position element) used pool.old handles.now result pool.new handles.now }
-{
-    let number = numbers::at_number(used, pool, handles, slot, position);
-    if number != 0 {
-        return number;
-    }
-    let at = handles[slot] as usize + position;
-    pool[at] = element;
-    0
-}
+use super::{Answer, ListPool, Part};
 
 impl ListPool {
     // Returns the elements of the list in a slot, to be written: a part of the pool, empty where reading the list is refused.
@@ -37,9 +16,7 @@ impl ListPool {
     ) -> &'a mut [u32]
         ensures { LiesInMut self handles.now slot pool.entry result }
     {
-        let part = self.part(pool, handles, slot);
-        let start = part.start;
-        let end = part.end;
+        let Part { start, end } = self.part(pool, handles, slot);
         &mut pool[start..end]
     }
 
@@ -55,11 +32,12 @@ impl ListPool {
         ensures { outcome result pool.new handles.now
             ≡ called (rules.set_at slot position element) self pool.old handles.now }
     {
-        let number = set_element(self.used, pool, handles, slot, position, element);
-        Answer {
-            number,
-            value: 0,
-            state: self,
+        match self.check_at(pool, handles, slot, position) {
+            Ok(()) => {
+                pool[handles[slot] as usize + position] = element;
+                self.done(0)
+            }
+            Err(refusal) => self.refused(refusal),
         }
     }
 }

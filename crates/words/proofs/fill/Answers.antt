@@ -1,28 +1,13 @@
--- `fill` meets its contract. What the loop keeps: the words passed so far are the value.
-use mathlib.Core.Path.{refl}
-use native.Mathlib.Omega.{arith}
-use lib.ListN.{replicate, length-set, length-replicate, get_or-replicate}
-use lib.Seq.{take_all}
+-- `fill` meets its contract.
+use Rattle.std.proofs.Common.{◌∙◌, ◌≡◌, ap, ◌+◌, ◌-◌, length, take, drop, replicate, length-take, length-drop, arith}
+use Rattle.std.proofs.lemmas.List.{length-replicate}
 use Rattle.words.specs.Runs.{filled}
-use Rattle.words.specs.RunLaws.{set_sets_take}
+use Rattle.words.proofs.Pastes.{part_sets}
 use Rattle.words.proofs.fill.Goals as goal
-
-pub loop-i-init : goal.loop-i-init
-loop-i-init c = (omega arith, refl, refl)
-
-pub loop-i-preserved : goal.loop-i-preserved
-loop-i-preserved c =
-    let a = c.args in
-    let l = c.loop-i in
-    let turn = set_sets_take a.s.now a.at (replicate a.n a.v) l.i (simp length-replicate (omega arith)) in
-    (omega arith, simp length-set l.invariant.1, rw l.invariant.2 (rw (get_or-replicate a.n l.i a.v 0 (omega arith)) at turn))
-
-pub shape_of-s : goal.shape_of-s
-shape_of-s c = c.loop-i.invariant.1
 
 pub returns : goal.returns
 unfolding filled
 returns c =
     let a = c.args in
-    let l = c.loop-i in
-    rw (take_all l.i (replicate a.n a.v) (simp length-replicate (omega arith))) at l.invariant.2
+    let n : length (take (a.at + a.n - a.at) (drop a.at a.s.now)) ≡ a.n = simp (length-take, length-drop) (omega arith) in
+    part_sets a.s.now a.at _ (replicate a.n a.v) _ (c.fill.ensures.after (λ y h. h) ∙ ap (λ k. replicate k a.v) n) (simp length-replicate (omega arith)) (omega arith)
