@@ -280,12 +280,12 @@ function edits(    file) {
 
 # AS_MUT_SLICE
 
-# A check of text: the contract of as_mut_slice says nothing of the words beside the part, so its body is held to these four lines, the first of which
+# A check of text: the contract of as_mut_slice says nothing of the words beside the part, so its body is held to these two lines, the first of which
 # lends the pool to be read only. The crate has one function of either name, so that no other can be taken for it.
 function lending() {
     hold_to("pool::writing::ListPool::as_mut_slice", "body",
-        "let part = self.part(pool, handles, slot); let start = part.start; let end = part.end; &mut pool[start..end]",
-        "the body of as_mut_slice is not the four lines that find its part and lend it")
+        "let Part { start, end } = self.part(pool, handles, slot); &mut pool[start..end]",
+        "the body of as_mut_slice is not the two lines that find its part and lend it")
     hold_to("pool::reading::ListPool::part", "signature", "pub fn part(self, pool: &[u32], handles: &[u32], slot: usize) -> Part",
         "part, by which as_mut_slice finds its part, is not lent the pool to be read only")
 }

@@ -96,7 +96,7 @@ function rattle(    words, item) {
         return
     }
     if ($0 ~ /^}/) type = ""
-    if ($0 ~ /^ *(pub )?(extern "C" )?fn /) {
+    if ($0 ~ /^ *(pub(\((super|crate)\))? )?(extern "C" )?fn /) {
         flush()
         open = 1
         kind = "fn"
@@ -116,9 +116,9 @@ function rattle(    words, item) {
             holding_text = $0
             holding_indent = match($0, /[^ ]/) - 1
         }
-    } else if ($0 ~ /^ *(pub )?(const|struct) /) {
+    } else if ($0 ~ /^ *(pub )?(const|struct|enum) /) {
         name = $0
-        sub(/^ *(pub )?(const|struct) /, "", name)
+        sub(/^ *(pub )?(const|struct|enum) /, "", name)
         sub(/[^A-Za-z0-9_].*/, "", name)
         say($0 ~ /^ *(pub )?const / ? "const" : "struct", name, $0 ~ /^ *pub / ? "pub" : "private", place(), type, FILENAME, FNR)
         return

@@ -206,7 +206,7 @@ function rattle(    name, place) {
         if ($0 ~ /[;}] *$/) in_struct = 0
         return
     }
-    if ($0 ~ /^ *(pub )?(extern "C" )?fn /) {
+    if ($0 ~ /^ *(pub(\((super|crate)\))? )?(extern "C" )?fn /) {
         function_name = place name
         method_name = type == "" ? "" : place type "::" name
         of_file[function_name] = of_file[method_name] = file

@@ -11,7 +11,7 @@ FNR == 1 { state = "outside" }
 state != "clause" && /^ *(requires|ensures|ghost) *[{]/ { around = state; state = "clause"; depth = 0 }
 state == "clause" { depth += gsub(/[{]/, "") - gsub(/[}]/, ""); if (depth == 0) state = around; next }
 state == "outside" && /^ *(pub )?const / { name = $0; gsub(/^ *(pub )?|:.*/, "", name); n = own = open = 0; tokens($0, index($0, "=") + 1); mutants() }
-state == "outside" && /^ *(pub )?fn / { state = "signature"; signature = "" }
+state == "outside" && /^ *(pub(\((super|crate)\))? )?fn / { state = "signature"; signature = "" }
 state == "signature" { signature = signature " " $0 }
 state == "signature" && /[{] *$/ { read_signature(signature); state = "body"; depth = 1; n = 0; open = FNR; next }
 state == "body" {
@@ -22,7 +22,7 @@ state == "body" {
 
 # The name of a function, whether it gives anything, and its parameters with their types.
 function read_signature(s,    parts, k, m) {
-    sub(/^ *(pub )?fn +/, "", s)
+    sub(/^ *(pub(\((super|crate)\))? )?fn +/, "", s)
     name = s
     sub(/[<(].*/, "", name)
     gives = s ~ /->/

@@ -41,7 +41,7 @@ part == 2 {
 function owner(file, number,    k, s, name) {
     while (k < number && (getline s <file) > 0) {
         k++
-        if (s ~ /^ *(pub )?fn /) { name = s; sub(/^ *(pub )?fn +/, "", name); sub(/[<(].*/, "", name) }
+        if (s ~ /^ *(pub(\((super|crate)\))? )?fn /) { name = s; sub(/^ *(pub(\((super|crate)\))? )?fn +/, "", name); sub(/[<(].*/, "", name) }
     }
     close(file)
     return name

@@ -332,8 +332,5 @@ pub extern "C" fn maaliskur_class(length: u32) -> u32
 pub extern "C" fn maaliskur_size(class: u32) -> u32
     ensures { result ≡ size_fits class }
 {
-    if class >= 30 {
-        return 0;
-    }
-    SizeClass::size(class) as u32
+    u32::try_from(SizeClass::size(class)).unwrap_or(0)
 }
