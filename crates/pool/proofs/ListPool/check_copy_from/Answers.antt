@@ -62,4 +62,5 @@ check_more-requires c = rw c.length_at-old.ensures (entered₂ c.in_ok-check_ent
 pub returns : goal.returns
 unfolding copy_from_number given ◌or_else◌
 returns c =
-    let n = c.length_at-old.ensures in search (le-ltb, eq-eqb, ne_eqb, ← c.in_ok-check_entries.ensures, ← n, ← c.length_at.ensures, c.check_more.ensures)
+    let n = c.length_at-old.ensures in
+    search (le-ltb, eq-eqb, ne_eqb, ← c.in_ok-check_entries.ensures, ← n, ← c.length_at.ensures, c.check_more.ensures)

@@ -1,5 +1,5 @@
 -- `check_room` meets its contract: 6 and 7 in their order.
-use Rattle.std.proofs.Common.{le-leb, le-ltb, lt-ltb, eq-eqb, arith}
+use Rattle.std.proofs.Common.{le-leb, le-ltb, eq-eqb, arith}
 use Rattle.sizes.proofs.Laws.{class_below}
 use Rattle.pool.specs.Numbers.{◌or_else◌, given, bad_head, no_room, room_number}
 use Rattle.pool.proofs.Tests.{tests}
@@ -22,8 +22,12 @@ returns-then-h-ne0 c = search (tests, ← c.for_length-c.ensures.is, ← c.sound
 
 pub returns-then-self-size : goal.returns-then-self-size
 unfolding room_number bad_head no_room given ◌or_else◌
-returns-then-self-size c = search (le-leb, le-ltb, eq-eqb, ← c.for_length-c.ensures.is, ← c.sound_head.ensures, c.if-not-sound_head.false, ← c.size.ensures.exact (omega arith))
+returns-then-self-size c =
+    let size = c.size.ensures.exact (omega arith) in
+    search (le-leb, le-ltb, eq-eqb, ← c.for_length-c.ensures.is, ← c.sound_head.ensures, c.if-not-sound_head.false, ← size)
 
 pub returns : goal.returns
 unfolding room_number bad_head no_room given ◌or_else◌
-returns c = search (le-leb, le-ltb, eq-eqb, ← c.for_length-c.ensures.is, ← c.sound_head.ensures, c.if-not-sound_head.false, ← c.size.ensures.exact (omega arith))
+returns c =
+    let size = c.size.ensures.exact (omega arith) in
+    search (le-leb, le-ltb, eq-eqb, ← c.for_length-c.ensures.is, ← c.sound_head.ensures, c.if-not-sound_head.false, ← size)
