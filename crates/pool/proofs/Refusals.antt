@@ -1,13 +1,16 @@
 -- Numbers of refusals: none is 0, so a call is refused where a check fails, with its number, and goes on where it passes.
-use Rattle.std.specs.Prelude.{◌≡◌, ℕ, ◌<◌, Result, Ok, Err}
-use Rattle.std.specs.Prelude.{refl}
+use Rattle.std.specs.Prelude.{◌≡◌, ℕ, ◌<◌, List, Result, refl}
 use Rattle.std.specs.Result.{IsErrAnd}
-use Rattle.std.proofs.Common.{ne_eqb, arith}
+use Rattle.std.proofs.Common.{sym, ◌∙◌, ne_eqb, arith}
 use Rattle.std.proofs.lemmas.Result.{err_from_is_err_and}
-use Rattle.pool.specs.Numbers.{◌or_else◌}
+use Rattle.pool.specs.Facts.{Entered}
+use Rattle.pool.specs.Numbers.{◌or_else◌, entry_number, entry_number₂}
 use Rattle.pool.specs.declared.Refusal.{Refusal}
 use Rattle.pool.specs.declared.Refusal.TheVariants.{OverLimit, NoSlot, UnsoundHandle, OutsideList, SlotsClash, UnsoundHead, NoRoom, ShortMap, NotSound}
 use Rattle.pool.specs.Refusals.{refusal_number, check_number}
+use Rattle.pool.specs.Rules.{at_number}
+use Rattle.pool.specs.Steps.{HasAt}
+use Rattle.pool.proofs.Facts.{entry_facts, entry_facts₂, at_facts}
 
 pub refusal_some : (refusal : Refusal) → 0 < refusal_number refusal
 refusal_some OverLimit = omega arith
@@ -28,3 +31,19 @@ refused_first refusal b e = rw (← e, ne_eqb (refusal_number refusal) 0 (let p 
 -- what `?` passes on is the refusal that it met
 pub passed_on : {A : Type 0} (refusal : Refusal) (r : Result A Refusal) → IsErrAnd r (λ e. e ≡ refusal) → check_number r ≡ refusal_number refusal
 passed_on refusal r h = let e = err_from_is_err_and r h in rw (e.1, e.2) refl
+
+-- a call whose first check fails passes its refusal on
+pub stopped : {A : Type 0} (refusal : Refusal) (r : Result A Refusal) {a : ℕ} (b : ℕ) → IsErrAnd r (λ e. e ≡ refusal) → refusal_number refusal ≡ a
+    → check_number r ≡ (a or_else b)
+stopped refusal r b h e = passed_on refusal r h ∙ refused_first refusal b e
+
+-- what a call may rely on after the check of one slot, of two, and of a position
+module _ {used : ℕ} {ws hs : List ℕ} {slot : ℕ} where
+  pub entered : 0 ≡ entry_number used ws hs slot → Entered used ws hs slot
+  entered e = entry_facts used ws hs slot (sym e)
+
+  pub entered₂ : {other : ℕ} → 0 ≡ entry_number₂ used ws hs slot other → (Entered used ws hs slot) × (Entered used ws hs other)
+  entered₂ e = entry_facts₂ used ws hs slot _ (sym e)
+
+  pub entered_at : {position : ℕ} → 0 ≡ at_number used ws hs slot position → (Entered used ws hs slot) × (HasAt ws hs slot position)
+  entered_at e = at_facts used ws hs slot _ (sym e)

@@ -5,7 +5,7 @@ use Rattle.pool.proofs.ListPool.check_need.Goals as goal
 
 pub returns-then-needs_block : goal.returns-then-needs_block
 unfolding need_number
-returns-then-needs_block c = search (tests, ← c.needs_block.ensures, c.if-needs_block.true, ← c.room_number.ensures)
+returns-then-needs_block c = search (tests, ← c.needs_block.ensures, c.if-needs_block.true, c.check_room.ensures)
 
 pub returns : goal.returns
 unfolding need_number

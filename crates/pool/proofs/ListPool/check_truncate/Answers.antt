@@ -1,40 +1,36 @@
 -- `check_truncate` meets its contract: a list that has no more elements keeps its block.
-use native.Mathlib.Omega.{arith}
-use Prim.Native.Nat.{min}
-use mathlib.Core.Path.{◌≡◌, sym, ◌∙◌}
-use Rattle.pool.specs.Numbers.{◌or_else◌, state_of}
+use Rattle.std.proofs.Common.{◌≡◌, min, arith}
+use Rattle.pool.specs.Numbers.{◌or_else◌}
 use Rattle.pool.specs.Rules.{len_of, truncate_number}
-use Rattle.pool.proofs.Facts.{entry_facts}
 use Rattle.pool.proofs.StepLaws.{need_same}
+use Rattle.pool.proofs.Refusals.{stopped, entered}
 use Rattle.pool.proofs.Tests.{tests}
 use Rattle.pool.proofs.ListPool.check_truncate.Goals as goal
 
-pub returns-then-entry-ne0 : goal.returns-then-entry-ne0
-unfolding truncate_number ◌or_else◌
-returns-then-entry-ne0 c = search (tests, ← c.entry_number-entry.ensures)
+pub returns-in_err-check_entry : goal.returns-in_err-check_entry
+unfolding truncate_number
+returns-in_err-check_entry c = stopped _ _ _ c.from_residual.ensures.1 c.in_err-check_entry.ensures
 
 pub offset_bounds-handles-slot : goal.offset_bounds-handles-slot
-offset_bounds-handles-slot c = let f = entry_facts _ _ _ _ (sym c.entry_number-entry.ensures ∙ omega arith) in omega arith
+offset_bounds-handles-slot c = let f = entered c.in_ok-check_entry.ensures in omega arith
 
 pub bounds-handles-slot : goal.bounds-handles-slot
-bounds-handles-slot c = (entry_facts _ _ _ _ (sym c.entry_number-entry.ensures ∙ c.if-entry-ne0.false)).inside
+bounds-handles-slot c = (entered c.in_ok-check_entry.ensures).inside
 
 pub length_at-old-requires : goal.length_at-old-requires
-length_at-old-requires c = (entry_facts _ _ _ _ (sym c.entry_number-entry.ensures ∙ c.if-entry-ne0.false)).list.below
+length_at-old-requires c = (entered c.in_ok-check_entry.ensures).list.below
 
 pub returns-then-new-old : goal.returns-then-new-old
 unfolding truncate_number ◌or_else◌
 returns-then-new-old c =
     let a = c.args in
-    let st = state_of a.used a.heads.now in
-    let f = entry_facts _ _ _ _ (sym c.entry_number-entry.ensures ∙ c.if-entry-ne0.false) in
+    let f = entered c.in_ok-check_entry.ensures in
     let len = len_of a.pool.now a.handles.now a.slot in
-    let none = need_same st a.pool.now len (min len a.new) f.list.short (omega arith) in
-    search (tests, ← c.entry_number-entry.ensures, none)
+    let none = need_same a.self.now a.pool.now len (min len a.new) f.list.short (omega arith) in
+    search (tests, ← c.in_ok-check_entry.ensures, none)
 
 pub returns : goal.returns
 unfolding truncate_number ◌or_else◌
 returns c =
-    let a = c.args in
-    let least : min c.length_at-old.result a.new ≡ a.new = omega arith in
-    search (tests, ← c.entry_number-entry.ensures, ← c.length_at-old.ensures, least, ← c.need_number.ensures)
+    let least : min c.length_at-old.result c.args.new ≡ c.args.new = omega arith in
+    search (tests, ← c.in_ok-check_entry.ensures, ← c.length_at-old.ensures, least, c.check_need.ensures)
