@@ -1,8 +1,6 @@
 -- `insert_done` meets its contract: the element is pushed, the tail goes up, and the element is written at the position.
-use Rattle.std.proofs.Common.{◌≡◌, ◌+◌, ◌-◌, set, ap, arith}
-use Rattle.words.specs.Runs.{copied}
-use Rattle.pool.specs.Numbers.{handle_at}
-use Rattle.pool.specs.Rules.{Outcome, done, len_of, push_done, insert_done}
+use Rattle.std.proofs.Common.{◌≡◌, ap, arith}
+use Rattle.pool.specs.Rules.{Outcome, len_of, push_done, insert_done}
 use Rattle.pool.proofs.ListPool.insert_done.Goals as goal
 use Rattle.pool.proofs.ListPool.insert_done.Goals.{After-push_done-old}
 
@@ -22,11 +20,4 @@ copy-requires c =
 
 pub returns : goal.returns
 unfolding insert_done
-returns c =
-    let a = c.args in
-    let p = c.push_done-old in
-    rw (c.copy.ensures, ← old_length (goal.at.returns c).After-push_done-old)
-    (ap (λ (o : Outcome).
-    let at = handle_at o.handles a.slot + a.position in
-    done 0 o.answer.state (set (copied o.words at (at + 1) (p.result - a.position)) at a.element) o.handles)
-    p.ensures.is)
+returns c = rw (← c.push_done-old.ensures.is, ← old_length (goal.at.returns c).After-push_done-old, ← c.copy.ensures)

@@ -3,7 +3,6 @@ use Rattle.std.proofs.Common.{◌+◌, ◌-◌, ◌<◌, length, arith}
 use Rattle.std.proofs.lemmas.List.Edits.{swap_is}
 use Rattle.pool.specs.Numbers.{handle_at}
 use Rattle.pool.specs.Rules.{swap_remove_done}
-use Rattle.pool.proofs.StepLaws.{can_remove_last}
 use Rattle.pool.proofs.CallLaws.{last_resized}
 use Rattle.pool.proofs.ListPool.swap_remove_done.Goals as goal
 
@@ -19,5 +18,5 @@ returns c =
     let last_in : last < length a.pool.now = omega (arith, n.ensures, p.ends, p.before) in
     rw
     (← n.ensures, swap_is a.pool.now at last 0 at_in last_in, ← c.swap.ensures.after,
-     last_resized a.self.now c.swap.new.self a.handles.now a.slot _ n.result (omega (arith, n.ensures, p.before)))
+     last_resized _ _ _ _ _ n.result (omega (arith, n.ensures, p.before)))
     c.resize.ensures.is

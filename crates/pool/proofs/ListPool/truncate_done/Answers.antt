@@ -1,6 +1,5 @@
 -- `truncate_done` meets its contract: fewer elements, or as it was.
-use Rattle.std.proofs.Common.{◌≡◌, min, sym, arith}
-use Rattle.pool.specs.Rules.{len_of}
+use Rattle.std.proofs.Common.{sym, arith}
 use Rattle.pool.proofs.CallLaws.{truncate_none, truncate_resized}
 use Rattle.pool.proofs.ListPool.truncate_done.Goals as goal
 
