@@ -13,7 +13,7 @@ returns-then-head-eq0 c =
     }
 
 pub bounds-pool-head : goal.bounds-pool-head
-bounds-pool-head c = let a = c.args in head_below a.self.now _ a.c c.requires
+bounds-pool-head c = head_below _ _ c.args.c c.requires
 
 pub returns : goal.returns
 unfolding blocks.alloc blocks.recycled

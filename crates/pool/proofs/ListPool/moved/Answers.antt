@@ -8,7 +8,7 @@ use Rattle.pool.proofs.ListPool.moved.Goals.{After-for_length-to}
 
 -- a block of the new class holds the length and the elements
 fits : (c : After-for_length-to) → c.args.new + 1 ≤ size_of c.for_length-to.result
-fits c = let a = c.args in rw c.for_length-to.ensures.is (block_fits a.self.now _ a.h a.old a.new c.requires.0)
+fits c = rw c.for_length-to.ensures.is (block_fits _ _ _ _ c.args.new c.requires.0)
 
 pub returns-then-old-eq0 : goal.returns-then-old-eq0
 unfolding blocks.moved
@@ -21,9 +21,7 @@ returns-then-old-eq0 c =
 
 pub realloc-requires : goal.realloc-requires
 realloc-requires c =
-    let a = c.args in
-    rw (c.for_length-to.ensures.is, c.for_length-from.ensures.is, c.min.ensures)
-    (can_realloc a.self.now _ a.h a.old a.new c.requires.0 (omega arith) c.requires.1)
+    rw (c.for_length-to.ensures.is, c.for_length-from.ensures.is, c.min.ensures) (can_realloc _ _ _ _ _ c.requires.0 (omega arith) c.requires.1)
 
 pub returns : goal.returns
 unfolding blocks.moved

@@ -5,10 +5,7 @@ use Rattle.pool.proofs.StepLaws.{can_free}
 use Rattle.pool.proofs.ListPool.release.Goals as goal
 
 pub free-requires : goal.free-requires
-free-requires c =
-    let a = c.args in
-    let p = c.requires in
-    rw c.for_length.ensures.is (can_free _ a.h a.n p.0 (p.0.live p.1) p.2)
+free-requires c = let p = c.requires in rw c.for_length.ensures.is (can_free _ _ _ p.0 (p.0.live p.1) p.2)
 
 pub returns : goal.returns
 unfolding cleared

@@ -16,7 +16,10 @@ returns c =
     let last = handle_at a.handles.now a.slot + (n.result - 1) in
     let at_in : at < length a.pool.now = omega (arith, p.ends, p.before) in
     let last_in : last < length a.pool.now = omega (arith, n.ensures, p.ends, p.before) in
-    rw
-    (← n.ensures, swap_is a.pool.now at last 0 at_in last_in, ← c.swap.ensures.after,
-     last_resized _ _ _ _ _ n.result (omega (arith, n.ensures, p.before)))
+    rw (
+      ← n.ensures,
+      swap_is a.pool.now at last 0 at_in last_in,
+      ← c.swap.ensures.after,
+      last_resized _ _ _ _ _ n.result (omega (arith, n.ensures, p.before)),
+    )
     c.resize.ensures.is

@@ -10,6 +10,4 @@ returns-then-new-old c =
     rw (truncate_resized a.self.now a.pool.now a.handles.now a.slot a.new (omega (arith, n, c.if-new-old.true)), ← n) c.resize.ensures.is
 
 pub returns-else-new-old : goal.returns-else-new-old
-returns-else-new-old c =
-    let a = c.args in
-    sym (truncate_none _ a.self.now a.pool.now a.handles.now a.slot a.new c.requires.can.list (rw (← c.length_at-old.ensures) c.if-new-old.false))
+returns-else-new-old c = sym (truncate_none _ _ _ _ _ _ c.requires.can.list (rw (← c.length_at-old.ensures) c.if-new-old.false))
