@@ -1,16 +1,7 @@
 -- `deep_clone_done` meets its contract: the list grows, and the other's elements are copied there.
-use Rattle.words.specs.Runs.{copied}
-use Rattle.pool.specs.Numbers.{handle_at}
 use Rattle.pool.specs.Rules.{deep_clone_done}
-use Rattle.pool.proofs.CallLaws.{outcome_written}
 use Rattle.pool.proofs.ListPool.deep_clone_done.Goals as goal
-
-pub grow-grown-requires : goal.grow-grown-requires
-grow-grown-requires c = rw c.length_at-len.ensures c.requires.1
 
 pub returns : goal.returns
 unfolding deep_clone_done
-returns c =
-    let a = c.args in
-    let n = c.length_at-len in
-    rw (← n.ensures) (outcome_written (λ ws hs. copied ws (handle_at a.handles.now a.slot) (handle_at hs a.to) n.result) c.grow-grown.ensures.is c.copy.ensures)
+returns c = rw (← c.length_at-len.ensures, ← c.grow.ensures.is, ← c.copy.ensures)

@@ -1,7 +1,5 @@
 -- `free` meets its contract.
-use native.Mathlib.Omega.{arith}
-use mathlib.Core.Path.{refl}
-use lib.ListN.{length-set}
+use Rattle.std.proofs.Common.{refl, length-set, arith}
 use Rattle.sizes.proofs.Laws.{size_least}
 use Rattle.pool.specs.Blocks as blocks
 use Rattle.pool.proofs.ListPool.free.Goals as goal
@@ -14,4 +12,4 @@ bounds-pool-block-2 c = simp length-set (omega (arith, size_least c.args.c))
 
 pub returns : goal.returns
 unfolding blocks.free
-returns c = λ used. refl
+returns c = refl

@@ -1,19 +1,23 @@
 -- `insert_done` meets its contract: the element is pushed, the tail goes up, and the element is written at the position.
-use native.Mathlib.Omega.{arith}
-use Prim.Native.Nat.{◌+◌, ◌-◌}
-use mathlib.Core.Path.{ap}
-use lib.ListN.{set, length-set}
-use Rattle.words.specs.Runs.{copied}
-use Rattle.pool.specs.Numbers.{handle_at}
-use Rattle.pool.specs.Rules.{Outcome, done, insert_done}
+use Rattle.std.proofs.Common.{◌≡◌, ap, arith}
+use Rattle.pool.specs.Rules.{Outcome, len_of, push_done, insert_done}
 use Rattle.pool.proofs.ListPool.insert_done.Goals as goal
+use Rattle.pool.proofs.ListPool.insert_done.Goals.{After-push_done-old}
 
-pub shape_of-pool : goal.shape_of-pool
-shape_of-pool c = simp length-set (omega arith)
+-- the value of the push is the old length
+old_length : (c : After-push_done-old) → c.push_done-old.result ≡ len_of c.args.pool.now c.args.handles.now c.args.slot
+unfolding push_done
+old_length c = ap (λ (o : Outcome). o.answer.value) c.push_done-old.ensures.is
+
+pub overflow_sub-old : goal.overflow_sub-old
+overflow_sub-old c = omega (arith, old_length (goal.at.overflow_sub-old c).After-push_done-old, c.requires.0)
+
+pub copy-requires : goal.copy-requires
+copy-requires c =
+    let n = old_length (goal.at.copy-requires c).After-push_done-old in
+    let p = c.push_done-old in
+    (omega (arith, n, c.requires.0, p.ensures.ends, p.auto.pool), omega (arith, n, c.requires.0, p.ensures.ends, p.auto.pool))
 
 pub returns : goal.returns
 unfolding insert_done
-returns c =
-    let a = c.args in
-    let n = c.length_at-old in
-    rw (c.done.ensures, c.shift_up.ensures, ← n.ensures) (ap (λ (o : Outcome). done 0 o.answer.state (set (copied o.words (handle_at o.handles a.slot + a.position) (handle_at o.handles a.slot + a.position + 1) (n.result - a.position)) (handle_at o.handles a.slot + a.position) a.element) o.handles) c.push_done-pushed.ensures.is)
+returns c = rw (← c.push_done-old.ensures.is, ← old_length (goal.at.returns c).After-push_done-old, ← c.copy.ensures)

@@ -6,6 +6,6 @@ pub returns : goal.returns
 unfolding blocks.realloc
 returns c =
     record {
-      is = rw (← c.alloc-taken.ensures.is, ← c.copy.ensures, ← c.free.ensures c.alloc-taken.result.used);
-      ends = c.alloc-taken.ensures.ends;
+      is = rw (← c.alloc-at.ensures.is, ← c.copy.ensures, ← c.free.ensures);
+      ends = c.alloc-at.ensures.ends;
     }

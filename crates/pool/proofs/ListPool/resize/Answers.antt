@@ -1,48 +1,40 @@
--- `resize` meets its contract: the list is cleared, stays in its block, or moves.
-use native.Mathlib.Omega.{arith}
-use Prim.Native.Nat.{◌-◌}
-use mathlib.Core.Bool.{not}
-use mathlib.Core.Path.{ap, refl, sym, ◌∙◌}
+-- `resize` meets its contract: the list is cleared, moves, or stays in its block.
+use Rattle.std.proofs.Common.{◌≤◌, ◌+◌, ◌-◌, length, not, ap, sym, refl, ◌∙◌, arith}
 use Rattle.pool.specs.Blocks as blocks
 use Rattle.pool.specs.Steps.{taken}
 use Rattle.pool.proofs.StepLaws.{stay_ends}
 use Rattle.pool.proofs.CallLaws.{released_meets, resized_meets}
 use Rattle.pool.proofs.ListPool.resize.Goals as goal
+use Rattle.pool.proofs.ListPool.resize.Goals.{Else-needs_block}
 
-pub release-requires : goal.release-requires
-release-requires c = (c.requires.0.list, c.requires.1 c.if-new-eq0.true, c.requires.0.limit, c.requires.2)
+-- where no block is needed, the list's own holds the new length
+stays : (c : Else-needs_block) → (1 ≤ c.args.h) × (c.args.h - 1 + (c.args.new + 1) ≤ length c.args.pool.now)
+stays c =
+    stay_ends _ _ _ _ _ c.requires.0 (omega (arith, c.if-new-eq0.false)) c.needs_block.ensures (ap not c.if-needs_block.false)
+
+pub overflow_sub-h : goal.overflow_sub-h
+overflow_sub-h c = (stays (goal.at.overflow_sub-h c).Else-needs_block).0
+
+pub seat-requires-else-needs_block : goal.seat-requires-else-needs_block
+seat-requires-else-needs_block c =
+    let e = stays (goal.at.seat-requires-else-needs_block c).Else-needs_block in
+    (omega (arith, e.1), c.requires.0.limit, c.requires.2)
 
 pub returns-then-new-eq0 : goal.returns-then-new-eq0
 returns-then-new-eq0 c =
-    let a = c.args in
-    released_meets _ a.state a.pool.now a.handles.now a.slot a.h a.old a.new c.requires.2 c.if-new-eq0.true (c.requires.1 c.if-new-eq0.true) (rw c.done.ensures (c.release.ensures a.state.used))
+    let none = c.if-new-eq0.true in
+    released_meets _ _ _ _ _ _ _ _ c.requires.2 none (c.requires.1 none) c.release.ensures
 
-pub overflow_sub-h : goal.overflow_sub-h
-overflow_sub-h c =
-    let a = c.args in
-    let e = stay_ends a.state _ a.h a.old a.new c.requires.0 (omega (arith, c.if-new-eq0.false)) c.needs_block.ensures (ap not c.if-not-needs_block.true) in
-    e.0
+pub returns-then-needs_block : goal.returns-then-needs_block
+returns-then-needs_block c =
+    let m = c.moved-block in
+    resized_meets _ _ _ _ _ _ _ _ (taken m.result m.new.self m.new.pool) c.requires.2 c.if-new-eq0.false m.ensures.is m.ensures.ends refl
+    c.seat.ensures.0 c.seat.ensures.1
 
-pub seat-requires : goal.seat-requires
-seat-requires c =
-    let a = c.args in
-    let e = stay_ends a.state _ a.h a.old a.new c.requires.0 (omega (arith, c.if-new-eq0.false)) c.needs_block.ensures (ap not c.if-not-needs_block.true) in
-    (omega (arith, e.1), c.requires.0.limit, c.requires.2)
-
-pub returns-then-not-needs_block : goal.returns-then-not-needs_block
+pub returns-else-needs_block : goal.returns-else-needs_block
 unfolding blocks.moved
-returns-then-not-needs_block c =
+returns-else-needs_block c =
     let a = c.args in
-    let e = stay_ends a.state _ a.h a.old a.new c.requires.0 (omega (arith, c.if-new-eq0.false)) c.needs_block.ensures (ap not c.if-not-needs_block.true) in
-    resized_meets _ a.state a.pool.now a.handles.now a.slot a.h a.old a.new (record { block = a.h - 1; state = a.state; words = a.pool.now }) c.requires.2 c.if-new-eq0.false (rw (sym c.needs_block.ensures ∙ c.if-not-needs_block.true) refl) e.1 c.done-then-not-needs_block.ensures c.seat.ensures.0 c.seat.ensures.1
-
-pub moved-taken-requires : goal.moved-taken-requires
-moved-taken-requires c = (c.requires.0, sym c.needs_block.ensures ∙ c.if-not-needs_block.false)
-
-pub seat-requires-2 : goal.seat-requires-2
-seat-requires-2 c = let e = c.moved-taken.ensures.ends in (omega (arith, c.moved-taken.auto.pool), omega (arith, c.moved-taken.auto.pool, c.requires.0.limit), c.requires.2)
-
-pub returns : goal.returns
-returns c =
-    let a = c.args in
-    resized_meets _ a.state a.pool.now a.handles.now a.slot a.h a.old a.new (taken c.moved-taken.result c.moved-taken.new.heads c.moved-taken.new.pool) c.requires.2 c.if-new-eq0.false c.moved-taken.ensures.is c.moved-taken.ensures.ends c.done-2.ensures c.seat-2.ensures.0 c.seat-2.ensures.1
+    let e = stays (goal.at.returns-else-needs_block c).Else-needs_block in
+    resized_meets _ _ _ _ _ _ _ _ (taken (a.h - 1) a.self.now a.pool.now) c.requires.2 c.if-new-eq0.false
+    (rw (sym c.needs_block.ensures ∙ c.if-needs_block.false) refl) e.1 refl c.seat-else-needs_block.ensures.0 c.seat-else-needs_block.ensures.1
