@@ -1,5 +1,5 @@
 -- Numbers of refusals: none is 0, so a call is refused where a check fails, with its number, and goes on where it passes.
-use Rattle.std.specs.Prelude.{◌≡◌, ℕ, ◌<◌, Result, Ok, Err}
+use Rattle.std.specs.Prelude.{◌≡◌, ℕ, ◌<◌, false, eqb, List, Result, Ok, Err}
 use Rattle.std.specs.Prelude.{refl}
 use Rattle.std.specs.Result.{IsErrAnd}
 use Rattle.std.proofs.Common.{ne_eqb, arith}
@@ -8,6 +8,9 @@ use Rattle.pool.specs.Numbers.{◌or_else◌}
 use Rattle.pool.specs.declared.Refusal.{Refusal}
 use Rattle.pool.specs.declared.Refusal.TheVariants.{OverLimit, NoSlot, UnsoundHandle, OutsideList, SlotsClash, UnsoundHead, NoRoom, ShortMap, NotSound}
 use Rattle.pool.specs.Refusals.{refusal_number, check_number}
+use Rattle.pool.specs.declared.ListPool.{ListPool}
+use Rattle.pool.specs.declared.Answer.{Answer}
+use Rattle.pool.specs.Rules.{outcome, answer, Call, number_of, done_of, unless, called}
 
 pub refusal_some : (refusal : Refusal) → 0 < refusal_number refusal
 refusal_some OverLimit = omega arith
@@ -28,3 +31,20 @@ refused_first refusal b e = rw (← e, ne_eqb (refusal_number refusal) 0 (let p 
 -- what `?` passes on is the refusal that it met
 pub passed_on : {A : Type 0} (refusal : Refusal) (r : Result A Refusal) → IsErrAnd r (λ e. e ≡ refusal) → check_number r ≡ refusal_number refusal
 passed_on refusal r h = let e = err_from_is_err_and r h in rw (e.1, e.2) refl
+
+-- the test whether a refusal's number is 0
+pub refusal_eqb : (refusal : Refusal) → eqb (refusal_number refusal) 0 ≡ false
+refusal_eqb refusal = ne_eqb (refusal_number refusal) 0 (let p = refusal_some refusal in omega arith)
+
+module _ (call : Call) (st : ListPool) (ws hs : List ℕ) where
+  -- a call whose check fails is refused with the check's number
+  pub refused_called : (refusal : Refusal) {r : Answer} → refusal_number refusal ≡ number_of call st ws hs → r ≡ answer (refusal_number refusal) 0 st
+      → outcome r ws hs ≡ called call st ws hs
+  unfolding called unless
+  refused_called refusal n e = rw (e, ← n, refusal_eqb refusal) refl
+
+  -- and one whose check passes does what its rule says
+  pub done_called : {r done : Answer} {words handles : List ℕ} → 0 ≡ number_of call st ws hs → r ≡ done
+      → outcome done words handles ≡ done_of call st ws hs → outcome r words handles ≡ called call st ws hs
+  unfolding called unless
+  done_called n e d = rw (e, ← n) d
