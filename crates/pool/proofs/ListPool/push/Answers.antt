@@ -1,17 +1,17 @@
 -- `push` meets its contract: refused with its number, or done.
-use mathlib.Core.Path.{sym, ◌∙◌}
-use Rattle.pool.specs.Rules.{called, unless, number_of, done_of}
-use Rattle.pool.proofs.Tests.{tests}
+use Rattle.std.proofs.Common.{sym}
+use Rattle.pool.specs.Rules.{number_of, done_of}
 use Rattle.pool.proofs.Facts.{grow_facts}
+use Rattle.pool.proofs.Refusals.{refused_called, done_called}
 use Rattle.pool.proofs.ListPool.push.Goals as goal
 
-pub returns-then-number-ne0 : goal.returns-then-number-ne0
-unfolding called unless number_of done_of
-returns-then-number-ne0 c = search (tests, ← c.push_number-number.ensures, c.refused.ensures)
+pub push_done-old-requires : goal.push_done-old-requires
+push_done-old-requires c = grow_facts _ _ _ _ _ (sym c.in-Ok.ensures)
 
-pub push_done-requires : goal.push_done-requires
-push_done-requires c = (grow_facts _ _ _ _ _ (sym c.push_number-number.ensures ∙ c.if-number-ne0.false))
+pub returns-in-Ok : goal.returns-in-Ok
+unfolding number_of done_of
+returns-in-Ok c = done_called _ _ _ _ c.in-Ok.ensures c.done.ensures c.push_done-old.ensures.is
 
-pub returns : goal.returns
-unfolding called unless number_of done_of
-returns c = search (tests, ← c.push_number-number.ensures, ← c.push_done.ensures.is)
+pub returns-in-Err : goal.returns-in-Err
+unfolding number_of
+returns-in-Err c = refused_called _ _ _ _ _ c.in-Err.ensures c.refused.ensures

@@ -1,5 +1,33 @@
--- `take` meets its contract: the number and the deed are `take_handle`'s, whatever the heads, and the state is handed back.
+-- `take` meets its contract: refused with its number, or done.
+use Rattle.std.specs.Prelude.{refl}
+use Rattle.std.proofs.Common.{sym, length-set, arith}
+use Rattle.pool.specs.Rules.{number_of, done_of, take_done}
+use Rattle.pool.proofs.Facts.{take_facts}
+use Rattle.pool.proofs.Refusals.{refused_called, done_called}
 use Rattle.pool.proofs.ListPool.take.Goals as goal
 
-pub returns : goal.returns
-returns c = c.take_handle-number.ensures.whatever c.args.self.heads
+pub offset_bounds-handles-slot : goal.offset_bounds-handles-slot
+offset_bounds-handles-slot c = let f = take_facts _ _ _ _ _ (sym c.in-Ok.ensures) in omega arith
+
+pub bounds-handles-slot : goal.bounds-handles-slot
+bounds-handles-slot c = (take_facts _ _ _ _ _ (sym c.in-Ok.ensures)).0
+
+pub offset_bounds-handles-to : goal.offset_bounds-handles-to
+offset_bounds-handles-to c = let f = take_facts _ _ _ _ _ (sym c.in-Ok.ensures) in omega arith
+
+pub bounds-handles-to : goal.bounds-handles-to
+bounds-handles-to c = (take_facts _ _ _ _ _ (sym c.in-Ok.ensures)).1
+
+pub offset_bounds-handles-slot-in-Ok : goal.offset_bounds-handles-slot-in-Ok
+offset_bounds-handles-slot-in-Ok c = let f = take_facts _ _ _ _ _ (sym c.in-Ok.ensures) in omega arith
+
+pub bounds-handles-slot-in-Ok : goal.bounds-handles-slot-in-Ok
+bounds-handles-slot-in-Ok c = simp length-set (take_facts _ _ _ _ _ (sym c.in-Ok.ensures)).0
+
+pub returns-in-Ok : goal.returns-in-Ok
+unfolding number_of done_of take_done
+returns-in-Ok c = done_called _ _ _ _ c.in-Ok.ensures c.done.ensures refl
+
+pub returns-in-Err : goal.returns-in-Err
+unfolding number_of
+returns-in-Err c = refused_called _ _ _ _ _ c.in-Err.ensures c.refused.ensures
