@@ -1,41 +1,49 @@
 -- `audit` meets its contract: refused with 1 or 8, or judged on a cleared map, which is cleared again with 9.
-use Rattle.std.proofs.Common.{rules}
-use Prim.Native.Nat.{◌/◌}
-use mathlib.Core.Path.{sym, ◌∙◌}
-use native.Mathlib.Omega.{arith}
-use lib.ListN.{length}
-use borrow.Author.Tests.{lt-ltb, le-ltb}
+use Rattle.std.proofs.Common.{◌≡◌, ℕ, ◌/◌, ◌≤◌, List, ◌++◌, length, take, drop, replicate, ap, length-take-le, sym, ◌∙◌, arith, lt-ltb, le-ltb}
+use Rattle.words.specs.Runs.{filled}
+use Rattle.words.specs.RunLaws.{length_filled}
 use Rattle.pool.specs.Numbers.{◌or_else◌, given}
 use Rattle.pool.proofs.Facts.{within_facts}
 use Rattle.audit.specs.Audit.{audit, audit_number, verdict}
-use Rattle.audit.specs.Passes.{filled_again}
+use Rattle.audit.specs.Passes.{filled_start, filled_again}
 use Rattle.audit.proofs.audit.Goals as goal
+
+-- the first words of the map, filled with 0
+cleared : (map part : List ℕ) (n : ℕ) → n ≤ length map → part ≡ replicate (length (take n map)) 0 → part ++ drop n map ≡ filled map 0 n 0
+cleared map part n h e = rw (e, length-take-le n map h, filled_start map n 0 h)
 
 pub returns-then-over_limit : goal.returns-then-over_limit
 unfolding audit audit_number given ◌or_else◌
-returns-then-over_limit c = rw (c.answered.ensures, ← c.over_limit.ensures, c.if-over_limit.true)
+returns-then-over_limit c = rw (c.refused.ensures, ← c.over_limit.ensures, c.if-over_limit.true)
 
 pub returns-then-map-groups : goal.returns-then-map-groups
 unfolding audit audit_number given ◌or_else◌
 returns-then-map-groups c =
     let a = c.args in
-    rw (c.answered-then-map-groups.ensures, ← c.over_limit.ensures, c.if-over_limit.false, lt-ltb (length a.map.now) (a.state.used / 4) c.if-map-groups.true)
+    rw (c.refused-then-map-groups.ensures, ← c.over_limit.ensures, c.if-over_limit.false, lt-ltb (length a.map.now) (a.state.used / 4) c.if-map-groups.true)
 
 pub accepted-requires : goal.accepted-requires
 accepted-requires c =
     let a = c.args in
     let within = within_facts a.state.used (length a.pool.now) (length a.handles.now) (sym c.over_limit.ensures ∙ c.if-over_limit.false) in
-    (search rules, within.below, within.pool_within, within.table_within, omega (arith, c.fill.auto.s))
+    let whole = ap length (cleared a.map.now c.fill.new.self (a.state.used / 4) c.if-map-groups.false (c.fill.ensures.after (λ y e. e))) ∙ length_filled a.map.now 0 (a.state.used / 4) 0 in
+    (within.below, within.pool_within, within.table_within, omega arith)
 
-pub returns-then-not-accepted : goal.returns-then-not-accepted
+pub returns-in-Ok : goal.returns-in-Ok
 unfolding audit audit_number given ◌or_else◌ verdict
-returns-then-not-accepted c =
+returns-in-Ok c =
     let a = c.args in
-    let cleared = c.fill-then-not-accepted.ensures ∙ filled_again a.map.now c.accepted.new.map (a.state.used / 4) 0 (omega arith) (omega (arith, c.accepted.auto.map, c.fill.auto.s)) (rw c.fill.ensures at c.accepted.ensures.rest) ∙ sym c.fill.ensures in
-    rw (c.answered-then-not-accepted.ensures, ← c.over_limit.ensures, c.if-over_limit.false, le-ltb (length a.map.now) (a.state.used / 4) c.if-map-groups.false, ← c.fill.ensures, c.accepted.ensures.is, c.if-not-accepted.true, cleared)
+    let clean = cleared a.map.now c.fill.new.self (a.state.used / 4) c.if-map-groups.false (c.fill.ensures.after (λ y e. e)) in
+    rw (c.done.ensures, ← c.over_limit.ensures, c.if-over_limit.false, le-ltb (length a.map.now) (a.state.used / 4) c.if-map-groups.false, ← clean, c.in-Ok.ensures.is)
 
-pub returns : goal.returns
+pub returns-in-Err : goal.returns-in-Err
 unfolding audit audit_number given ◌or_else◌ verdict
-returns c =
+returns-in-Err c =
     let a = c.args in
-    rw (c.answered-2.ensures, ← c.over_limit.ensures, c.if-over_limit.false, le-ltb (length a.map.now) (a.state.used / 4) c.if-map-groups.false, ← c.fill.ensures, c.accepted.ensures.is, c.if-not-accepted.false)
+    let n = a.state.used / 4 in
+    let clean = cleared a.map.now c.fill.new.self n c.if-map-groups.false (c.fill.ensures.after (λ y e. e)) in
+    let whole = ap length clean ∙ length_filled a.map.now 0 n 0 in
+    let long : n ≤ length c.accepted.new.map = omega (arith, c.accepted.auto.map) in
+    let again = cleared c.accepted.new.map c.fill-in-Err.new.self n long (c.fill-in-Err.ensures.after (λ y e. e))
+    ∙ filled_again a.map.now c.accepted.new.map n 0 c.if-map-groups.false long (c.accepted.ensures.rest ∙ ap (drop n) clean) in
+    rw (c.refused-in-Err.ensures, ← c.over_limit.ensures, c.if-over_limit.false, le-ltb (length a.map.now) n c.if-map-groups.false, ← clean, c.in-Err.ensures.is, again, clean)

@@ -1,10 +1,6 @@
 -- `mark` meets its contract: refused where the group is marked already, else one word is stored.
-use Prim.Native.Nat.{◌+◌}
-use mathlib.Core.Path.{refl}
-use native.Mathlib.Omega.{arith}
-use lib.ListN.{get_or}
-use lib.Seq.{drop-set-lt}
-use borrow.Author.Tests.{eq-eqb, ne_eqb}
+use Rattle.std.proofs.Common.{◌+◌, get_or, refl, arith, eq-eqb, ne_eqb}
+use Rattle.std.proofs.lemmas.List.{drop-set-lt}
 use Rattle.audit.specs.Audit.{group_of, marked}
 use Rattle.audit.proofs.mark.Goals as goal
 

@@ -1,57 +1,42 @@
 -- `mark_handles` meets its contract. The loop's invariant: the handles that are left, from here, leave what all leave.
-use mathlib.Core.Path.{sym, ◌∙◌}
-use native.Mathlib.Omega.{arith}
-use Rattle.audit.specs.Passes.{left_start, left_end, left_is, left_refused, left_next, handles_end, handles_refused, handles_empty, handles_live, group_live}
+use Rattle.std.proofs.Common.{sym, ◌∙◌, arith}
+use Rattle.audit.specs.Passes.{left_end, left_is, left_refused, left_next, handles_end, handles_refused, handles_empty, handles_live, group_live}
 use Rattle.audit.proofs.mark_handles.Goals as goal
-use Rattle.audit.proofs.mark_handles.Goals.{then-h-ne0+else-not-mark, else-h-ne0}
-
-pub loop-slot-init : goal.loop-slot-init
-loop-slot-init c = (omega arith, left_start _ _ _)
-
-pub shape_of-map-then-not-sound_handle : goal.shape_of-map-then-not-sound_handle
-shape_of-map-then-not-sound_handle c = c.loop-slot.invariant.1.long
+use Rattle.audit.proofs.mark_handles.Goals.{then-h-ne0+in_ok-mark, else-h-ne0}
 
 pub returns-then-not-sound_handle : goal.returns-then-not-sound_handle
 returns-then-not-sound_handle c =
     let a = c.args in
     let l = c.loop-slot in
-    left_end l.invariant.1 _ (handles_refused a.used a.pool.now a.handles.now l.slot l.map c.loop-slot-test.true (sym c.sound_handle.ensures ∙ c.if-not-sound_handle.true))
+    left_end l.invariant _ (handles_refused a.used a.pool.now a.handles.now l.slot l.map c.loop-slot-test.true (sym c.sound_handle.ensures ∙ c.if-not-sound_handle.true))
 
 pub mark-requires : goal.mark-requires
 mark-requires c =
     let a = c.args in
     let below = group_live a.used a.pool.now _ (sym c.sound_handle.ensures ∙ c.if-not-sound_handle.false) c.if-h-ne0.true in
-    (omega arith, omega (arith, c.loop-slot.invariant.1.long))
+    (omega arith, omega (arith, c.loop-slot.auto.map))
 
-pub shape_of-map-then-not-mark : goal.shape_of-map-then-not-mark
-shape_of-map-then-not-mark c = c.mark.auto.map ∙ c.loop-slot.invariant.1.long
-
-pub returns-then-not-mark : goal.returns-then-not-mark
-returns-then-not-mark c =
+pub returns-in_err-mark : goal.returns-in_err-mark
+returns-in_err-mark c =
     let a = c.args in
     let l = c.loop-slot in
     let sound = sym c.sound_handle.ensures ∙ c.if-not-sound_handle.false in
-    left_refused l.invariant.1 _ (handles_live a.used a.pool.now a.handles.now l.slot l.map c.loop-slot-test.true sound c.if-h-ne0.true)
-    (group_live a.used a.pool.now _ sound c.if-h-ne0.true) c.mark.ensures c.if-not-mark.true
+    left_refused l.invariant _ (handles_live a.used a.pool.now a.handles.now l.slot l.map c.loop-slot-test.true sound c.if-h-ne0.true)
+    (group_live a.used a.pool.now _ sound c.if-h-ne0.true) c.in_err-mark.ensures _ c.from_residual.ensures.1
 
 pub loop-slot-preserved : goal.loop-slot-preserved
 loop-slot-preserved c =
     let a = c.args in
     let l = c.loop-slot in
     let below = c.loop-slot-test.true in
-    let sound = sym c.sound_handle.ensures ∙ c.if-not-sound_handle.false in (
-      omega arith,
-      elim c.if-h-ne0.branch [
-        | then-h-ne0+else-not-mark w ↦ rw w.map-is (left_next l.invariant.1 _ (handles_live a.used a.pool.now a.handles.now l.slot l.map below sound w.if-h-ne0.true) (group_live a.used a.pool.now _ sound w.if-h-ne0.true) w.mark.ensures w.if-not-mark.false w.mark.auto.map)
-        | else-h-ne0 w ↦ rw w.map-is (left_is l.invariant.1 (handles_empty a.used a.pool.now a.handles.now l.slot l.map below sound w.if-h-ne0.false))
-      ],
-    )
-
-pub shape_of-map : goal.shape_of-map
-shape_of-map c = c.loop-slot.invariant.1.long
+    let sound = sym c.sound_handle.ensures ∙ c.if-not-sound_handle.false in
+    elim c.if-h-ne0.branch [
+      | then-h-ne0+in_ok-mark w ↦ rw w.map-is (left_next l.invariant _ (handles_live a.used a.pool.now a.handles.now l.slot l.map below sound w.if-h-ne0.true) (group_live a.used a.pool.now _ sound w.if-h-ne0.true) w.in_ok-mark.ensures w.mark.auto.map)
+      | else-h-ne0 w ↦ rw w.map-is (left_is l.invariant (handles_empty a.used a.pool.now a.handles.now l.slot l.map below sound w.if-h-ne0.false))
+    ]
 
 pub returns : goal.returns
 returns c =
     let a = c.args in
     let l = c.loop-slot in
-    left_end l.invariant.1 _ (handles_end a.used a.pool.now a.handles.now l.slot l.map c.loop-slot-test.false)
+    left_end l.invariant _ (handles_end a.used a.pool.now a.handles.now l.slot l.map c.loop-slot-test.false)
