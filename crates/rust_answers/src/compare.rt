@@ -1,6 +1,5 @@
 // What the Rust left, as the list has it, and how the library's state compares with it.
-use super::findings::Finding;
-use super::{findings, parts};
+use super::findings::{Difference, Fault, Place};
 use pool::checks::POOL_LIMIT;
 use pool::{Answer, ListPool};
 
@@ -9,80 +8,78 @@ const HEADS: usize = 1;
 
 const HANDLES: usize = 16;
 
-pub const WORDS: usize = 32;
+const WORDS: usize = 32;
 
-// Writes the changes of a line, each a run's first cell, its length and its word, to the cells. Returns false where one is not whole or not in them.
-pub fn changed(changes: &[u32], cells: &mut [u32]) -> bool {
-    let mut i = 0;
-    while i < changes.len() {
-        if changes.len() - i < 3 {
-            return false;
-        }
-        let at = parts::word(changes, i) as usize;
-        let n = parts::word(changes, i + 1) as usize;
-        if at + n > cells.len() {
-            return false;
-        }
-        words::fill(cells, at, n, changes[i + 2]);
-        i += 3;
+const CELLS: usize = WORDS + POOL_LIMIT;
+
+// What the Rust left, cell by cell.
+#[derive(Drop)]
+pub struct Cells([u32; CELLS]);
+
+impl Cells {
+    // Returns the cells before the first line: all are 0.
+    pub fn new() -> Cells {
+        Cells([0; CELLS])
     }
-    true
+
+    // Writes the changes of a line, each a run's first cell, its length and its word. A fault where one is not whole or not of cells that there are.
+    pub fn change(&mut self, changes: &[u32]) -> Result<(), Fault> {
+        for change in changes.chunks(3) {
+            let &[at, run, word] = change else {
+                return Err(Fault::Changes);
+            };
+            let at = at as usize;
+            let cells = self.0.get_mut(at..at + run as usize);
+            cells.ok_or(Fault::Changes)?.fill(word);
+        }
+        Ok(())
+    }
+
+    // Compares what a call answered and left with what the Rust did, and audits the pool.
+    pub fn judge(
+        &self,
+        answer: Answer,
+        value: u32,
+        pool: &[u32],
+        handles: &[u32],
+    ) -> Result<(), Difference> {
+        let Answer {
+            number,
+            value: ours,
+            state,
+        } = answer;
+        equal(Place::Number, number, 0)?;
+        equal(Place::Value, ours, value)?;
+        equal(Place::Used, state.used, self.0[0])?;
+        compared(Place::Head, &state.heads, &self.0[HEADS..])?;
+        compared(Place::Handle, handles, &self.0[HANDLES..])?;
+        let used = pool.get(..state.used as usize).unwrap_or(pool);
+        compared(Place::Word, used, &self.0[WORDS..])?;
+        equal(Place::Audit, audited(state, pool, handles), 0)
+    }
 }
 
-// Compares words with the Rust's, which are 0 past their end.
-fn compared(what: u32, ours: &[u32], rust: &[u32]) -> Finding {
-    let mut i = 0;
-    while i < ours.len() {
-        let word = parts::word(rust, i);
-        if ours[i] != word {
-            return findings::differs(what, i, ours[i], word);
-        }
-        i += 1;
+// Compares a number with the Rust's.
+fn equal(place: Place, ours: u32, rust: u32) -> Result<(), Difference> {
+    if ours == rust {
+        Ok(())
+    } else {
+        Err(Difference { place, ours, rust })
     }
-    findings::nothing()
 }
 
-// Compares one number with the Rust's.
-fn equal(what: u32, ours: u32, rust: u32) -> Finding {
-    if ours != rust {
-        return findings::differs(what, 0, ours, rust);
+// Compares words with the Rust's.
+fn compared<P: Fn(usize) -> Place>(place: P, ours: &[u32], rust: &[u32]) -> Result<(), Difference>
+    requires { P.IsAlwaysCallable place }
+{
+    for (i, (ours, rust)) in ours.iter().zip(rust).enumerate() {
+        equal(place(i), *ours, *rust)?;
     }
-    findings::nothing()
+    Ok(())
 }
 
 // Audits the pool as it is, and returns the number.
 fn audited(state: ListPool, pool: &[u32], handles: &[u32]) -> u32 {
     let mut map = [0u32; POOL_LIMIT / 4];
-    let answer = audit::audit(state, pool, handles, &mut map);
-    answer.number
-}
-
-// Compares what a call answered and left with what the Rust did, and audits the pool.
-pub fn judged(answer: Answer, value: u32, pool: &[u32], handles: &[u32], cells: &[u32]) -> Finding {
-    let state = answer.state;
-    let heads = state.heads;
-    let mut found = equal(findings::NUMBER, answer.number, 0);
-    if found.what == 0 {
-        found = equal(findings::VALUE, answer.value, value);
-    }
-    if found.what == 0 {
-        found = equal(findings::USED, state.used, parts::word(cells, 0));
-    }
-    if found.what == 0 {
-        found = compared(findings::HEAD, &heads, parts::from(cells, HEADS));
-    }
-    if found.what == 0 {
-        found = compared(findings::HANDLE, handles, parts::from(cells, HANDLES));
-    }
-    if found.what == 0 {
-        found = compared(
-            findings::WORD,
-            parts::front(pool, state.used as usize),
-            parts::from(cells, WORDS),
-        );
-    }
-    if found.what == 0 {
-        found = equal(findings::AUDIT, audited(state, pool, handles), 0);
-    }
-    found
+    audit::audit(state, pool, handles, &mut map).number
 }

@@ -1,141 +1,124 @@
-// What is found in a line, and how it is said.
-use std::io;
+// What stops a replay, and how it is said.
+use std::fmt;
 
 // A fault of the list.
-pub const NUMERAL: u32 = 1;
+#[derive(Clone, Copy, Debug, PartialEq, Eq)]
+pub enum Fault {
+    Numeral,
+    LineEnd,
+    Space,
+    Long,
+    Short,
+    Call,
+    Changes,
+    Sizes,
+}
 
-pub const LINE_END: u32 = 2;
+impl fmt::Display for Fault {
+    // Says what is wrong.
+    fn fmt<W: fmt::Write>(&self, f: &mut fmt::Formatter<W>) -> fmt::Result {
+        f.write_str(match self {
+            Fault::Numeral => "no decimal number of 32 bits where one is expected",
+            Fault::LineEnd => "the input ends before the line does",
+            Fault::Space => "neither a space nor a line end after a number",
+            Fault::Long => "more numbers than a line may have",
+            Fault::Short => "fewer numbers than the call, its arguments and its value",
+            Fault::Call => "no call of this code takes so many arguments",
+            Fault::Changes => "a change is not three numbers, or not of cells that there are",
+            Fault::Sizes => "more words or slots than this program can lend",
+        })
+    }
+}
 
-pub const SPACE: u32 = 3;
+// A number that is compared with the Rust's.
+#[derive(Clone, Copy, Debug, PartialEq, Eq)]
+pub enum Place {
+    Number,
+    Value,
+    Used,
+    Head(usize),
+    Handle(usize),
+    Word(usize),
+    Audit,
+}
 
-pub const LONG: u32 = 4;
+impl fmt::Display for Place {
+    // Names the number.
+    fn fmt<W: fmt::Write>(&self, f: &mut fmt::Formatter<W>) -> fmt::Result {
+        match self {
+            Place::Number => write!(f, "number"),
+            Place::Value => write!(f, "value"),
+            Place::Used => write!(f, "used"),
+            Place::Head(i) => write!(f, "head {i}"),
+            Place::Handle(i) => write!(f, "handle {i}"),
+            Place::Word(i) => write!(f, "word {i}"),
+            Place::Audit => write!(f, "the audit's number"),
+        }
+    }
+}
 
-pub const SHORT: u32 = 5;
-
-pub const CALL: u32 = 6;
-
-pub const CHANGES: u32 = 7;
-
-pub const SIZES: u32 = 8;
-
-// A difference from the Rust.
-pub const NUMBER: u32 = 9;
-
-pub const VALUE: u32 = 10;
-
-pub const USED: u32 = 11;
-
-pub const HEAD: u32 = 12;
-
-pub const HANDLE: u32 = 13;
-
-pub const WORD: u32 = 14;
-
-pub const AUDIT: u32 = 15;
-
-// Nothing (0), a fault of the list, or what differs, at which index, with both values.
-#[derive(Clone, Copy)]
-pub struct Finding {
-    pub what: u32,
-    pub at: usize,
+// A difference from the Rust: where, and both numbers.
+#[derive(Clone, Copy, Debug, PartialEq, Eq)]
+pub struct Difference {
+    pub place: Place,
     pub ours: u32,
     pub rust: u32,
 }
 
-// Returns that nothing was found.
-pub fn nothing() -> Finding {
-    fault(0)
-}
-
-// Returns a fault of the list.
-pub fn fault(what: u32) -> Finding {
-    Finding {
-        what,
-        at: 0,
-        ours: 0,
-        rust: 0,
+impl fmt::Display for Difference {
+    // Says what differs.
+    fn fmt<W: fmt::Write>(&self, f: &mut fmt::Formatter<W>) -> fmt::Result {
+        let Difference { place, ours, rust } = self;
+        write!(f, "{place} is {ours}, the Rust has {rust}")
     }
 }
 
-// Returns a difference from the Rust.
-pub fn differs(what: u32, at: usize, ours: u32, rust: u32) -> Finding {
-    Finding {
-        what,
-        at,
-        ours,
-        rust,
+// What is found in a line.
+#[derive(Clone, Copy, Debug, PartialEq, Eq)]
+pub enum Finding {
+    Faulty(Fault),
+    Differs(Difference),
+}
+
+impl From<Fault> for Finding {
+    // Finds a fault of the list.
+    fn from(fault: Fault) -> Finding {
+        Finding::Faulty(fault)
     }
 }
 
-// Writes bytes to standard output.
-fn put(rt: &impl Print, bytes: &[u8]) -> io::Result<()> {
-    rt.write_all(bytes)
-}
-
-// Writes a number to standard output.
-fn put_number(rt: &impl Print, n: u64) -> io::Result<()> {
-    print!(rt; "{n}")
-}
-
-// Names what is wrong or differs.
-fn put_name(rt: &impl Print, what: u32) -> io::Result<()> {
-    match what {
-        NUMERAL => put(rt, b"no decimal number of 32 bits where one is expected"),
-        LINE_END => put(rt, b"the input ends before the line does"),
-        SPACE => put(rt, b"neither a space nor a line end after a number"),
-        LONG => put(rt, b"more numbers than a line may have"),
-        SHORT => put(
-            rt,
-            b"fewer numbers than the call, its arguments and its value",
-        ),
-        CALL => put(rt, b"no call of this code takes so many arguments"),
-        CHANGES => put(
-            rt,
-            b"a change is not three numbers, or not of cells that there are",
-        ),
-        SIZES => put(rt, b"more words or slots than this program can lend"),
-        NUMBER => put(rt, b"number"),
-        VALUE => put(rt, b"value"),
-        USED => put(rt, b"used"),
-        HEAD => put(rt, b"head "),
-        HANDLE => put(rt, b"handle "),
-        WORD => put(rt, b"word "),
-        _ => put(rt, b"the audit's number"),
+impl From<Difference> for Finding {
+    // Finds a difference from the Rust.
+    fn from(difference: Difference) -> Finding {
+        Finding::Differs(difference)
     }
 }
 
-// Says what was found in a line.
-pub fn say(rt: &impl Print, line: u64, found: Finding) -> io::Result<()> {
-    put(rt, b"line ")?;
-    put_number(rt, line)?;
-    put(rt, b": ")?;
-    put_name(rt, found.what)?;
-    if found.what >= NUMBER {
-        if found.what >= HEAD && found.what <= WORD {
-            put_number(rt, found.at as u64)?;
+impl fmt::Display for Finding {
+    // Says what was found.
+    fn fmt<W: fmt::Write>(&self, f: &mut fmt::Formatter<W>) -> fmt::Result {
+        match self {
+            Finding::Faulty(fault) => write!(f, "{fault}"),
+            Finding::Differs(difference) => write!(f, "{difference}"),
         }
-        put(rt, b" is ")?;
-        put_number(rt, found.ours as u64)?;
-        put(rt, b", the Rust has ")?;
-        put_number(rt, found.rust as u64)?;
     }
-    put(rt, b"\n")
 }
 
-// Says that all calls were as the Rust.
-pub fn say_all(rt: &impl Print, calls: u64) -> io::Result<()> {
-    put_number(rt, calls)?;
-    put(rt, b" calls, ")?;
-    put_number(rt, calls)?;
-    put(rt, b" as the Rust\n")
+// Why a replay ends before the list does.
+#[derive(Clone, Copy, Debug, PartialEq, Eq)]
+pub enum Stop {
+    NothingRead,
+    TooMuch,
+    InLine(u64, Finding),
 }
 
-// Says that there is no input.
-pub fn say_nothing_read(rt: &impl Print) -> io::Result<()> {
-    put(rt, b"the input is empty, or cannot be read\n")
-}
-
-// Says that the input does not fit.
-pub fn say_too_much(rt: &impl Print) -> io::Result<()> {
-    put(rt, b"the input is longer than this program reads\n")
+impl fmt::Display for Stop {
+    // Says why, and in which line.
+    fn fmt<W: fmt::Write>(&self, f: &mut fmt::Formatter<W>) -> fmt::Result {
+        match self {
+            Stop::NothingRead => write!(f, "the input is empty, or cannot be read"),
+            Stop::TooMuch => write!(f, "the input is longer than this program reads"),
+            Stop::InLine(line, finding) => write!(f, "line {line}: {finding}"),
+        }
+    }
 }

@@ -7,17 +7,17 @@ ghost use Rattle.std.specs.Prelude.{◌<◌, ◌≤◌, ◌^◌, length};
 
 use pool::ListPool;
 use pool::checks::POOL_LIMIT;
-use sizes::SizeClass;
 use std::io;
 use std::io::Read;
 
 mod calls;
 mod compare;
 mod findings;
-mod parts;
 mod text;
 
-use findings::Finding;
+use calls::Call;
+use compare::Cells;
+use findings::{Fault, Finding, Stop};
 
 // A list has fewer bytes than this.
 const MOST_TEXT: usize = 524288;
@@ -28,213 +28,124 @@ const MOST_NUMBERS: usize = 4096;
 // A pool has at most so many slots.
 const MOST_SLOTS: usize = 16;
 
-// What calls are made on beside the lent arrays: the pool's state, and how many words and slots are lent.
-#[derive(Clone, Copy)]
+// A line of the list: the call, what the Rust gave back, and what it changed.
+#[derive(Clone, Copy, Debug, PartialEq, Eq)]
+struct Line<'a> {
+    call: Call<'a>,
+    value: u32,
+    changes: &'a [u32],
+}
+
+impl<'a> TryFrom<&'a [u32]> for Line<'a> {
+    type Error = Fault;
+
+    // Takes a line's numbers: the call's code, how many arguments, these, the value, and the changes.
+    fn try_from(numbers: &'a [u32]) -> Result<Line<'a>, Fault> {
+        let &[code, n, ref rest @ ..] = numbers else {
+            return Err(Fault::Short);
+        };
+        let (arguments, rest) = rest.split_at_checked(n as usize).ok_or(Fault::Short)?;
+        let (value, changes) = rest.split_first().ok_or(Fault::Short)?;
+        Ok(Line {
+            call: Call::try_from((code, arguments))?,
+            value: *value,
+            changes,
+        })
+    }
+}
+
+// What calls are made on: the pool's state, how many words and slots are lent, and of what; and the cells of what the Rust left.
+// The lengths stand beside the arrays because a slice of what is lent would be no plainer: the next pool may be lent more of them again.
+#[derive(Drop)]
 struct Bench {
     state: ListPool,
     words: usize,
     slots: usize,
+    pool: [u32; POOL_LIMIT],
+    handles: [u32; MOST_SLOTS],
+    cells: Cells,
 }
 
-// What a line comes to: the state after its call, and what was found.
-#[derive(Clone, Copy)]
-struct Turn {
-    bench: Bench,
-    found: Finding,
-}
-
-// A turn, and where the next line starts.
-#[derive(Clone, Copy)]
-struct Stepped {
-    turn: Turn,
-    next: usize,
-}
-
-// Returns the bench as it was, with a fault of the list.
-fn faulty(bench: Bench, fault: u32) -> Turn {
-    Turn {
-        bench,
-        found: findings::fault(fault),
-    }
-}
-
-// Makes a call on the words and slots that are lent.
-fn made(
-    bench: Bench,
-    code: u32,
-    arguments: &[u32],
-    value: u32,
-    pool: &mut [u32],
-    handles: &mut [u32],
-    cells: &[u32],
-) -> Turn {
-    let words = bench.words;
-    let slots = bench.slots;
-    if words > pool.len() {
-        return faulty(bench, findings::SIZES);
-    }
-    if slots > handles.len() {
-        return faulty(bench, findings::SIZES);
-    }
-    let answer = calls::call(
-        bench.state,
-        &mut pool[0..words],
-        &mut handles[0..slots],
-        code,
-        arguments,
-    );
-    let found = compare::judged(answer, value, &pool[0..words], &handles[0..slots], cells);
-    let state = answer.state;
-    Turn {
-        bench: Bench {
-            state,
-            words,
-            slots,
-        },
-        found,
-    }
-}
-
-// Returns the words and slots that are lent at a call: those of its arguments for a new pool, else those of before.
-fn lent(bench: Bench, code: u32, arguments: &[u32]) -> Bench {
-    if code != calls::NEW_POOL {
-        return bench;
-    }
-    let state = bench.state;
-    Bench {
-        state,
-        words: parts::word(arguments, 0) as usize,
-        slots: parts::word(arguments, 1) as usize,
-    }
-}
-
-// Takes a line's numbers: the call's code, how many arguments, these, the value, and the changes.
-fn taken(
-    bench: Bench,
-    numbers: &[u32],
-    pool: &mut [u32],
-    handles: &mut [u32],
-    cells: &mut [u32],
-) -> Turn {
-    if numbers.len() < 3 {
-        return faulty(bench, findings::SHORT);
-    }
-    let code = numbers[0];
-    let n = parts::word(numbers, 1) as usize;
-    if n > numbers.len() - 3 {
-        return faulty(bench, findings::SHORT);
-    }
-    if !calls::takes(code, n) {
-        return faulty(bench, findings::CALL);
-    }
-    if !compare::changed(&numbers[n + 3..], cells) {
-        return faulty(bench, findings::CHANGES);
-    }
-    let arguments = &numbers[2..n + 2];
-    made(
-        lent(bench, code, arguments),
-        code,
-        arguments,
-        numbers[n + 2],
-        pool,
-        handles,
-        cells,
-    )
-}
-
-// Reads the line at a place, and takes it.
-fn step(
-    bench: Bench,
-    text: &[u8],
-    at: usize,
-    pool: &mut [u32],
-    handles: &mut [u32],
-    cells: &mut [u32],
-) -> Stepped
-    requires { at < length text.now }
-    ensures { at < result.next }
-{
-    let mut numbers = [0u32; MOST_NUMBERS];
-    let line = text::read_line(text, at, &mut numbers);
-    let n = line.count;
-    let next = line.next;
-    if line.fault != 0 {
-        return Stepped {
-            turn: faulty(bench, line.fault),
-            next,
-        };
-    }
-    Stepped {
-        turn: taken(bench, &numbers[0..n], pool, handles, cells),
-        next,
-    }
-}
-
-// Replays the lines of a text, up to the first in which something is found, and says so, or how many there are.
-fn replay(
-    rt: &impl Print,
-    text: &[u8],
-    pool: &mut [u32],
-    handles: &mut [u32],
-    cells: &mut [u32],
-) -> io::Result<()> {
-    let mut bench = Bench {
-        state: ListPool {
-            used: 0,
-            heads: [0u32; SizeClass::COUNT],
-        },
-        words: 0,
-        slots: 0,
-    };
-    let mut at = 0;
-    let mut lines = 0;
-    while at < text.len() {
-        lines += 1;
-        let s = step(bench, text, at, pool, handles, cells);
-        let turn = s.turn;
-        if turn.found.what != 0 {
-            return findings::say(rt, lines, turn.found);
+impl Bench {
+    // Returns a bench on which nothing is lent.
+    fn new() -> Bench {
+        Bench {
+            state: ListPool::default(),
+            words: 0,
+            slots: 0,
+            pool: [0; POOL_LIMIT],
+            handles: [0; MOST_SLOTS],
+            cells: Cells::new(),
         }
-        bench = turn.bench;
-        at = s.next;
     }
-    findings::say_all(rt, lines)
+
+    // Makes a line's call on the words and slots that are lent, and compares with the Rust.
+    fn make(&mut self, line: Line<'_>) -> Result<(), Finding> {
+        self.cells.change(line.changes)?;
+        if let Call::NewPool { words, slots } = line.call {
+            self.words = words as usize;
+            self.slots = slots as usize;
+        }
+        let pool = self.pool.get_mut(..self.words).ok_or(Fault::Sizes)?;
+        let handles = self.handles.get_mut(..self.slots).ok_or(Fault::Sizes)?;
+        let answer = line.call.make(self.state, pool, handles);
+        self.state = answer.state;
+        self.cells.judge(answer, line.value, pool, handles)?;
+        Ok(())
+    }
+
+    // Reads a line, and makes its call.
+    fn step(&mut self, line: &[u8]) -> Result<(), Finding> {
+        let mut numbers = [0; MOST_NUMBERS];
+        let numbers = text::read_line(line, &mut numbers)?;
+        self.make(Line::try_from(numbers)?)
+    }
 }
 
-// Reads until the buffer is full, the input ends or a read fails, and returns how many bytes it read.
-fn read_full(input: &mut impl Read, buf: &mut [u8]) -> usize
-    ensures { result ≤ length buf.new }
+// Replays the lines of a text, up to the first in which something is found, and returns how many there are.
+fn replay(text: &[u8]) -> Result<u64, Stop> {
+    let mut bench = Bench::new();
+    let mut calls = 0;
+    for (number, line) in (1..).zip(text.split_inclusive(|b| *b == b'\n')) {
+        bench
+            .step(line)
+            .map_err(|found| Stop::InLine(number, found))?;
+        calls = number;
+    }
+    Ok(calls)
+}
+
+// Reads until the buffer is full, the input ends or a read fails, and returns what it read.
+// A loop of its own: std's read_exact does not say how much came, read_to_end needs the heap, and io::copy goes on after an interrupted read.
+fn read_full<'a>(input: &mut impl Read, buf: &'a mut [u8]) -> &'a [u8]
+    ensures { length result.now ≤ length buf.old }
 {
     let mut done = 0;
-    while done < buf.len() {
-        let n = input.read(&mut buf[done..]).unwrap_or(0);
-        if n == 0 {
-            break;
-        }
+    while let Ok(n @ 1..) = input.read(&mut buf[done..]) {
         done += n;
     }
-    done
+    &buf[..done]
 }
 
-// Reads a list of fewer than MOST bytes and replays it, on as many words as a pool may have.
-fn replay_input<const MOST: usize>(rt: &impl Print, input: &mut impl Read) -> io::Result<()>
+// Reads a list of fewer than MOST bytes and replays it.
+fn replay_input<const MOST: usize>(input: &mut impl Read) -> Result<u64, Stop>
     requires { MOST < 2 ^ 63 }
 {
-    let mut text = [0u8; MOST];
-    let mut pool = [0u32; POOL_LIMIT];
-    let mut handles = [0u32; MOST_SLOTS];
-    let mut cells = [0u32; compare::WORDS + POOL_LIMIT];
-    let n = read_full(input, &mut text);
-    if n == 0 {
-        return findings::say_nothing_read(rt);
+    let mut buf = [0u8; MOST];
+    let text = read_full(input, &mut buf);
+    if text.is_empty() {
+        return Err(Stop::NothingRead);
     }
-    if n == MOST {
-        return findings::say_too_much(rt);
+    if text.len() == MOST {
+        return Err(Stop::TooMuch);
     }
-    replay(rt, &text[..n], &mut pool, &mut handles, &mut cells)
+    replay(text)
 }
 
 // Replays the list that standard input has.
 fn main(rt: HostRuntime) -> io::Result<()> {
-    replay_input::<MOST_TEXT>(&rt, &mut rt.stdin())
+    match replay_input::<MOST_TEXT>(&mut rt.stdin()) {
+        Ok(calls) => println!(rt; "{calls} calls, {calls} as the Rust"),
+        Err(stop) => println!(rt; "{stop}"),
+    }
 }

@@ -1,7 +1,0 @@
--- `lent::overwrite` is safe and ends. The index stays within the part, which keeps its length. The measure is what is left of it. Assumes nothing.
-use native.Mathlib.Omega.{arith}
-use lib.ListN.{length-set}
-use Rattle.lent.proofs.overwrite.Goals as goal
-
-pub loop-i-preserved : goal.loop-i-preserved
-loop-i-preserved c = (omega arith, simp length-set (omega arith))
