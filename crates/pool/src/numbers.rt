@@ -118,6 +118,7 @@ impl ListPool {
     }
 
     // Refuses with 6 or 7 a list of the old length that grows by a count, of any size.
+    #[inline(always)]
     fn check_more(&self, pool: &[u32], old: u32, count: usize) -> Result<(), Refusal>
         requires { old ≤ longest }
         ensures { check_number result ≡ numbers.need_number self.now pool.now old (old + count) }
@@ -199,7 +200,8 @@ impl ListPool {
         Ok(())
     }
 
-    // Refuses a `push`, where the count is 1, and an `extend` by a count of elements.
+    // Refuses a `push`, where the count is 1, and an `extend` by a count of elements. It is made part of both, since a count of 1 needs no judging.
+    #[inline(always)]
     pub(super) fn check_grow(
         &self,
         pool: &[u32],
@@ -243,7 +245,8 @@ impl ListPool {
         self.check_more(pool, old, end - start)
     }
 
-    // Refuses an `insert`, where the count is 1, and a `grow_at` by a count.
+    // Refuses an `insert`, where the count is 1, and a `grow_at` by a count. It is made part of both, since a count of 1 needs no judging.
+    #[inline(always)]
     pub(super) fn check_grow_at(
         &self,
         pool: &[u32],
