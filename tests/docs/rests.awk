@@ -84,6 +84,8 @@ function cited(path,    name, of) {
     if (!is_here(path)) return "kit." name
     sub(/^Rattle\./, "", path)
     of = substr(path, 1, index(path, ".") - 1)
+    # a variant stands for its enum
+    if (sub(/\.TheVariants$/, "", path)) return of "::" last_of(path)
     return of (index(path, ".declared.") ? "::" : (index(path, ".proofs.") ? ".proofs." : ".") last_of(path) ".") name
 }
 
@@ -188,9 +190,9 @@ function rattle(    name, place) {
     }
     if ($0 ~ /^}/) type = ""
     name = $0
-    sub(/^.*(fn|struct) /, "", name)
+    sub(/^.*(fn|struct|enum) /, "", name)
     sub(/[^A-Za-z0-9_].*/, "", name)
-    if ($0 ~ /^ *(pub )?struct /) {
+    if ($0 ~ /^ *(pub )?(struct|enum) /) {
         in_struct = spelled[file, name] = place name
         of_file[in_struct] = file
     }

@@ -72,10 +72,19 @@ fn equal(place: Place, ours: u32, rust: u32) -> Result<(), Difference> {
 fn compared<P: Fn(usize) -> Place>(place: P, ours: &[u32], rust: &[u32]) -> Result<(), Difference>
     requires { P.IsAlwaysCallable place }
 {
-    for (i, (ours, rust)) in ours.iter().zip(rust).enumerate() {
-        equal(place(i), *ours, *rust)?;
+    match ours
+        .iter()
+        .zip(rust)
+        .enumerate()
+        .find(|(_, (ours, rust))| ours != rust)
+    {
+        None => Ok(()),
+        Some((i, (ours, rust))) => Err(Difference {
+            place: place(i),
+            ours: *ours,
+            rust: *rust,
+        }),
     }
-    Ok(())
 }
 
 // Audits the pool as it is, and returns the number.
