@@ -1,5 +1,5 @@
 -- The audit's passes over the map: what each ensures, and the laws of the rules by which a loop goes through them, a turn at a time.
-use Prim.Native.Nat.{ℕ, zero, suc, ◌+◌, ◌-◌, ◌/◌, ◌≤◌, ◌<◌}
+use Rattle.std.proofs.Common.{ℕ, zero, suc, ◌+◌, ◌-◌, ◌/◌, ◌≤◌, ◌<◌}
 use Rattle.std.specs.Prelude.{◌≡◌, refl, Result, Ok, Err, true, false, cond, List, ◌∷◌, ◌++◌, get_or, take, drop, replicate, eqb}
 use Rattle.std.proofs.Common.{sym, ◌∙◌, drop_of_length-le, drop-drop, drop_at, get_or-take, zero-add, add-one}
 use Rattle.std.proofs.Math.Path.{ap}
@@ -10,8 +10,8 @@ use Rattle.std.proofs.Math.ListN.{length, length-take}
 use Rattle.std.proofs.lemmas.List.{length-replicate}
 use Rattle.std.proofs.lemmas.List.Edits.{sets-eq}
 use Rattle.std.proofs.Math.Seq.{drop-cons}
-use borrow.Author.Tests.{eq-eqb, ne_eqb}
-use native.Mathlib.Omega.{arith}
+use Rattle.std.proofs.Common.{eq-eqb, ne_eqb}
+use Rattle.std.proofs.Common.{arith}
 use Rattle.sizes.specs.Class.{class_of}
 use Rattle.sizes.proofs.Laws.{size_least}
 use Rattle.words.specs.Runs.{filled}

@@ -4,12 +4,13 @@ use Rattle.std.specs.Prelude.{◌≡◌, Bool, not, ◌&&◌, ◌⊎◌, get_or,
 use Rattle.std.proofs.Math.Path.{refl, sym, ap}
 use Rattle.std.proofs.Common.{◌∙◌, add-mul, not-suc-le-zero, le_of_suc-le-suc, eq-zero-or-pos, get_or-set_same, get_or-set_other}
 use Rattle.std.proofs.Math.Bool.{true, false, cond}
-use mathlib.Core.List.{List, [], ◌∷◌}
+use Rattle.std.specs.Prelude.{List, [], ◌∷◌}
 use Rattle.std.proofs.Math.Logic.{inl, inr}
-use Prim.Native.Nat.{ℕ, zero, suc, ◌+◌, ◌-◌, ◌*◌, ◌≤◌, ◌<◌}
-use native.Mathlib.Omega.{arith}
+use Rattle.std.proofs.Common.{ℕ, zero, suc, ◌+◌, ◌-◌, ◌*◌, ◌≤◌, ◌<◌}
+use Rattle.std.proofs.Common.{arith}
 use Rattle.std.proofs.Math.Decide.{dec_le, dec_lt, ℕ_discrete}
-use borrow.Author.Tests.{lt-ltb, le-ltb, eq-eqb, ne_eqb, eqb-true, eqb-false, not-true}
+use Rattle.std.proofs.Common.{lt-ltb, le-ltb, eq-eqb, ne_eqb}
+use Rattle.std.proofs.lemmas.Bool.{eqb-true, eqb-false, not-true}
 use Rattle.std.proofs.Math.ListN.{length, length-set}
 use Rattle.std.proofs.Math.Dec.{eqb}
 use Rattle.sizes.specs.Class.{class_of, size_of, size_word}

@@ -4,7 +4,8 @@ use Rattle.std.proofs.Math.Path.{refl, ap}
 use Rattle.std.proofs.Common.{sym, ◌∙◌, inl, inr, ⊎_elim, true≢false, eq-zero-or-pos, zero-add, arith}
 use Rattle.std.proofs.Math.Bool.{true, false, cond, not, and-eq-true_iff}
 use Rattle.std.proofs.Math.Dec.{ltb}
-use borrow.Author.Tests.{ltb-true, ltb-false, leb-true, leb-false, eqb-true, eqb-false, eq-eqb, ne_eqb, lt-ltb, le-ltb, lt-leb, le-leb, not-false}
+use Rattle.std.proofs.Common.{ltb-true, ltb-false, leb-true, leb-false, eq-eqb, ne_eqb, lt-ltb, le-ltb, le-leb}
+use Rattle.std.proofs.lemmas.Bool.{eqb-true, eqb-false, lt-leb, not-false}
 use Rattle.pool.specs.Facts.{Within, Live, Entered, Stays, Head}
 use Rattle.sizes.specs.Class.{longest, class_of, size_of}
 use Rattle.sizes.proofs.Laws.{class_holds, class_below}

@@ -202,11 +202,7 @@ impl ListCall<'_> {
 
 // Answers for a call that gives a part of the pool, of which n words are as they should be: done, with the state as it was.
 fn done(state: ListPool, n: usize) -> Answer {
-    Answer {
-        number: 0,
-        value: u32::try_from(n).unwrap_or(u32::MAX),
-        state,
-    }
+    state.done(u32::try_from(n).unwrap_or(u32::MAX))
 }
 
 // Returns how many elements a list has, where that is not as many as the Rust's; else how many there are before the first that differs.
