@@ -1,7 +1,7 @@
 -- `maaliskur_size` meets its contract: the sizes of the classes below 30 fit 32 bits, and of the others only the 0 from class 62 on.
 use Rattle.std.specs.Prelude.{ℕ, ◌<◌, ◌≤◌, ◌^◌, ◌≡◌, refl, Bool, true, false, cond, ltb, Result, Ok, Err}
 use Rattle.std.specs.Result.{OkIff, result_unwrap_or}
-use Rattle.std.proofs.Common.{sym, ◌∙◌, ltb-true, ltb-false, le-ltb, lt-ltb, arith}
+use Rattle.std.proofs.Common.{◌∙◌, ltb-true, ltb-false, arith}
 use Rattle.sizes.specs.Class.{SizeOf, size_of, size_word}
 use Rattle.sizes.proofs.Laws.{size_mono}
 use Rattle.maaliskur.specs.Fits.{size_fits}
