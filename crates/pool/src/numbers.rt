@@ -58,7 +58,8 @@ impl ListPool {
         Ok(())
     }
 
-    // Refuses with 1, 2 or 3 a call that names the lists in two slots.
+    // Refuses with 1, 2 or 3 a call that names the lists in two slots. A function of its own beside `check_entry`: over a list of slots it would be two
+    // loops, the slots before the handles, and its rule, `entry_number₂`, is another one too.
     pub(super) fn check_entries(
         &self,
         pool: &[u32],
