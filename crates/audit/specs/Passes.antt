@@ -1,17 +1,12 @@
 -- The audit's passes over the map: what each ensures, and the laws of the rules by which a loop goes through them, a turn at a time.
-use Rattle.std.proofs.Common.{ℕ, zero, suc, ◌+◌, ◌-◌, ◌/◌, ◌≤◌, ◌<◌}
-use Rattle.std.specs.Prelude.{◌≡◌, refl, Result, Ok, Err, true, false, cond, List, ◌∷◌, ◌++◌, get_or, take, drop, replicate, eqb}
-use Rattle.std.proofs.Common.{sym, ◌∙◌, drop_of_length-le, drop-drop, drop_at, get_or-take, zero-add, add-one}
-use Rattle.std.proofs.Math.Path.{ap}
-use Rattle.std.specs.Result.{IsErrAnd, is_ok}
-use Rattle.std.proofs.lemmas.Result.{err_from_is_err_and}
+use Rattle.std.specs.Prelude.{◌≡◌, refl, ℕ, zero, suc, ◌+◌, ◌-◌, ◌/◌, ◌≤◌, ◌<◌, Result, Ok, Err, true, false, cond, List, ◌∷◌, ◌++◌, length, get_or, take, drop}
+use Rattle.std.specs.Prelude.{replicate, eqb, is_ok, IsErrAnd}
+use Rattle.std.proofs.Common.{sym, ◌∙◌, ap, arith, drop_of_length-le, drop-drop, drop_at, drop-cons, get_or-take, length-take}
+use Rattle.std.proofs.Common.{zero-add, add-one, eq-eqb, ne_eqb}
 use Rattle.std.proofs.Math.Option.{Option, none, some}
-use Rattle.std.proofs.Math.ListN.{length, length-take}
 use Rattle.std.proofs.lemmas.List.{length-replicate}
 use Rattle.std.proofs.lemmas.List.Edits.{sets-eq}
-use Rattle.std.proofs.Math.Seq.{drop-cons}
-use Rattle.std.proofs.Common.{eq-eqb, ne_eqb}
-use Rattle.std.proofs.Common.{arith}
+use Rattle.std.proofs.lemmas.Result.{err_from_is_err_and}
 use Rattle.sizes.specs.Class.{class_of}
 use Rattle.sizes.proofs.Laws.{size_least}
 use Rattle.words.specs.Runs.{filled}
@@ -50,8 +45,10 @@ module _ {n : ℕ} {whole left : Option (List ℕ)} {entry map : List ℕ} (l : 
   left_is e = record { is = l.is ∙ e; rest = l.rest; long = l.long }
 
   -- a part of it, which concerns the first m words alone: refused, which is passed on, or done
-  module _ {A E : Type 0} {m : ℕ} {rule : Option (List ℕ)} {exit : List ℕ} (next : List ℕ → Option (List ℕ)) (e : left ≡ and_then rule next) (h : m ≤ n) where
-    pub left_refused : {B : Type 0} {x : E} → Passed {A = A} m rule map exit (Err x) → (r : Result B E) → IsErrAnd r (λ y. y ≡ x) → Passed n whole entry exit r
+  module _ {A E : Type 0} {m : ℕ} {rule : Option (List ℕ)} {exit : List ℕ}
+      (next : List ℕ → Option (List ℕ)) (e : left ≡ and_then rule next) (h : m ≤ n) where
+    pub left_refused : {B : Type 0} {x : E} → Passed {A = A} m rule map exit (Err x)
+        → (r : Result B E) → IsErrAnd r (λ y. y ≡ x) → Passed n whole entry exit r
     unfolding and_then
     left_refused p r q =
         let f = err_from_is_err_and r q in
