@@ -1,12 +1,15 @@
 -- The audit's passes over the map: what each ensures, and the laws of the rules by which a loop goes through them, a turn at a time.
-use Rattle.std.specs.Prelude.{◌≡◌, refl, ℕ, zero, suc, ◌+◌, ◌-◌, ◌/◌, ◌≤◌, ◌<◌, Result, Ok, Err, true, false, cond, List, ◌∷◌, ◌++◌, length, get_or, take, drop}
-use Rattle.std.specs.Prelude.{replicate, eqb, is_ok, IsErrAnd}
-use Rattle.std.proofs.Common.{sym, ◌∙◌, ap, arith, drop_of_length-le, drop-drop, drop_at, drop-cons, get_or-take, length-take}
-use Rattle.std.proofs.Common.{zero-add, add-one, eq-eqb, ne_eqb}
+use Rattle.std.proofs.Common.{ℕ, zero, suc, ◌+◌, ◌-◌, ◌/◌, ◌≤◌, ◌<◌}
+use Rattle.std.specs.Prelude.{◌≡◌, refl, Bool, true, false, cond, List, ◌∷◌, ◌++◌, get_or, take, drop, replicate, eqb}
+use Rattle.std.proofs.Common.{sym, ◌∙◌, drop_of_length-le, drop-drop, drop_at, get_or-take, zero-add, add-one}
+use Rattle.std.proofs.Math.Path.{ap}
 use Rattle.std.proofs.Math.Option.{Option, none, some}
+use Rattle.std.proofs.Math.ListN.{length, length-take}
 use Rattle.std.proofs.lemmas.List.{length-replicate}
 use Rattle.std.proofs.lemmas.List.Edits.{sets-eq}
-use Rattle.std.proofs.lemmas.Result.{err_from_is_err_and}
+use Rattle.std.proofs.Math.Seq.{drop-cons}
+use Rattle.std.proofs.Common.{eq-eqb, ne_eqb}
+use Rattle.std.proofs.Common.{arith}
 use Rattle.sizes.specs.Class.{class_of}
 use Rattle.sizes.proofs.Laws.{size_least}
 use Rattle.words.specs.Runs.{filled}
@@ -15,8 +18,8 @@ use Rattle.pool.proofs.Facts.{handle_facts, head_facts}
 use Rattle.audit.specs.Audit.{live_mark, free_mark, group_of, marked, and_then, handles_marked, chain_marked, chains_marked, groups_at, swept}
 
 -- What a pass ensures that answers r: the rule's map is the one it leaves, or the rule refuses; and in any case the map's words from n on stay.
-pub record Passed {A E : Type 0} (n : ℕ) (rule : Option (List ℕ)) (entry exit : List ℕ) (r : Result A E) : Type 0 where
-  pub is : rule ≡ cond (is_ok r) (some exit) none
+pub record Passed (n : ℕ) (rule : Option (List ℕ)) (entry exit : List ℕ) (r : Bool) : Type 0 where
+  pub is : rule ≡ cond r (some exit) none
   pub rest : drop n exit ≡ drop n entry
 
 -- Where a pass stands that began with the map entry and has made it map: what is left, from here, is what the whole is.
@@ -37,26 +40,23 @@ pub left_start : (n : ℕ) (whole : Option (List ℕ)) (map : List ℕ) → Left
 left_start n whole map = record { is = refl; rest = refl; long = refl }
 
 module _ {n : ℕ} {whole left : Option (List ℕ)} {entry map : List ℕ} (l : Left n whole entry map left) where
-  pub left_end : {A E : Type 0} (r : Result A E) → left ≡ cond (is_ok r) (some map) none → Passed n whole entry map r
+  pub left_end : (r : Bool) → left ≡ cond r (some map) none → Passed n whole entry map r
   left_end r e = record { is = l.is ∙ e; rest = l.rest }
 
   -- another way to say what is left
   pub left_is : {other : Option (List ℕ)} → left ≡ other → Left n whole entry map other
   left_is e = record { is = l.is ∙ e; rest = l.rest; long = l.long }
 
-  -- a part of it, which concerns the first m words alone: refused, which is passed on, or done
-  module _ {A E : Type 0} {m : ℕ} {rule : Option (List ℕ)} {exit : List ℕ}
-      (next : List ℕ → Option (List ℕ)) (e : left ≡ and_then rule next) (h : m ≤ n) where
-    pub left_refused : {B : Type 0} {x : E} → Passed {A = A} m rule map exit (Err x)
-        → (r : Result B E) → IsErrAnd r (λ y. y ≡ x) → Passed n whole entry exit r
+  -- a part of it, which concerns the first m words alone: refused, or done
+  module _ {m : ℕ} {rule : Option (List ℕ)} {exit : List ℕ} {r : Bool} (next : List ℕ → Option (List ℕ))
+      (e : left ≡ and_then rule next) (h : m ≤ n) (p : Passed m rule map exit r) where
+    pub left_refused : r ≡ false → Passed n whole entry exit false
     unfolding and_then
-    left_refused p r q =
-        let f = err_from_is_err_and r q in
-        record { is = l.is ∙ e ∙ rw (p.is, f.1); rest = drop_more _ _ m n h p.rest ∙ l.rest }
+    left_refused q = record { is = l.is ∙ e ∙ rw (p.is, q); rest = drop_more _ _ m n h p.rest ∙ l.rest }
 
-    pub left_next : {a : A} → Passed {A = A} {E = E} m rule map exit (Ok a) → length exit ≡ length map → Left n whole entry exit (next exit)
+    pub left_next : r ≡ true → length exit ≡ length map → Left n whole entry exit (next exit)
     unfolding and_then
-    left_next p k = record { is = l.is ∙ e ∙ rw p.is; rest = drop_more _ _ m n h p.rest ∙ l.rest; long = k ∙ l.long }
+    left_next q k = record { is = l.is ∙ e ∙ rw (p.is, q); rest = drop_more _ _ m n h p.rest ∙ l.rest; long = k ∙ l.long }
 
 -- HANDLES
 

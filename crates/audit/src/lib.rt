@@ -22,7 +22,7 @@ struct Unsound;
 // Marks the block before a handle or pointer at its first group; refuses where that group is marked already.
 fn mark(map: &mut [u32], h: u32, word: u32) -> Result<(), Unsound>
     requires { (1 ≤ h) × (rules.group_of h < length map.old) }
-    ensures { Passed (rules.group_of h + 1) (rules.marked h word map.old) map.old map.new result }
+    ensures { Passed (rules.group_of h + 1) (rules.marked h word map.old) map.old map.new (is_ok result) }
 {
     let g = (h as usize - 1) / 4;
     if map[g] != 0 {
@@ -37,7 +37,7 @@ fn mark_handles(used: &[u32], handles: &[u32], map: &mut [u32]) -> Result<(), Un
     requires { (length used.now ≤ 4 * length map.old) × (length handles.now ≤ table_limit) }
     ensures { Passed (length used.now / 4)
         (rules.handles_marked (length used.now) used.now 0 handles.now map.old)
-        map.old map.new result }
+        map.old map.new (is_ok result) }
 {
     for (slot, &h) in handles.iter().enumerate() {
         if !checks::sound_handle(used.len(), used, h) {
@@ -56,7 +56,7 @@ fn mark_chain(used: &[u32], c: u32, head: u32, map: &mut [u32]) -> Result<(), Un
     requires { (length used.now ≤ 4 * length map.old) × (c < class_count) }
     ensures { Passed (length used.now / 4)
         (rules.chain_marked (length used.now) used.now (length used.now / 4) c head map.old)
-        map.old map.new result }
+        map.old map.new (is_ok result) }
 {
     let mut h = head;
     for _ in 0..used.len() / 4 {
@@ -84,7 +84,7 @@ fn mark_chains(
     requires { length used.now ≤ 4 * length map.old }
     ensures { Passed (length used.now / 4)
         (rules.chains_marked (length used.now) used.now 0 heads.now map.old)
-        map.old map.new result }
+        map.old map.new (is_ok result) }
 {
     for (c, &head) in heads.iter().enumerate() {
         mark_chain(used, c as u32, head, map)?;
@@ -139,7 +139,7 @@ fn accepted(
     requires { (length used.now ≤ 4 * length map.old) × (length handles.now ≤ table_limit) }
     ensures { Passed (length used.now / 4)
         (rules.accepted (state_of (length used.now) heads.now) used.now handles.now map.old)
-        map.old map.new result }
+        map.old map.new (is_ok result) }
 {
     mark_handles(used, handles, map)?;
     mark_chains(used, heads, map)?;

@@ -1,6 +1,7 @@
 -- `mark_chain` meets its contract. The loop's invariant: the chain that is left, from here, leaves what the whole leaves.
-use Rattle.std.proofs.Common.{length, ◌≡◌, ◌+◌, ◌-◌, ◌/◌, sym, ◌∙◌, arith}
-use Rattle.audit.specs.Passes.{left_end, left_refused, left_next, chain_end, chain_long, chain_refused, chain_free, group_free}
+use Rattle.std.proofs.Common.{refl, length, ◌≡◌, ◌+◌, ◌-◌, ◌/◌, sym, ◌∙◌, arith}
+use Rattle.audit.specs.Passes.{left_end, left_next, chain_end, chain_long, chain_refused, chain_free, group_free}
+use Rattle.audit.proofs.Exits.{passed_on}
 use Rattle.audit.proofs.mark_chain.Goals as goal
 use Rattle.audit.proofs.mark_chain.Goals.{else-loop-test, then-loop-test+then-h-eq0}
 
@@ -22,7 +23,7 @@ returns-in_err-mark c =
     let l = c.loop in
     let some = c.if-h-eq0.false in
     let sound = sym c.sound_head.ensures ∙ c.if-not-sound_head.false in
-    left_refused l.invariant.1 _ (chain_free (length a.used.now) a.used.now a.c l.h l.map some _ (omega arith) sound)
+    passed_on _ l.invariant.1 _ (chain_free (length a.used.now) a.used.now a.c l.h l.map some _ (omega arith) sound)
     (group_free (length a.used.now) a.used.now a.c _ sound some).0 c.in_err-mark.ensures _ c.from_residual.ensures.1
 
 pub bounds-used-h : goal.bounds-used-h
@@ -37,7 +38,7 @@ loop-preserved c =
     let some = c.if-h-eq0.false in
     let sound = sym c.sound_head.ensures ∙ c.if-not-sound_head.false in
     let less : length a.used.now / 4 - l.counter - 1 ≡ length a.used.now / 4 - (l.counter + 1) = omega arith in
-    (omega (arith, c.type_inv.used l.h), rw less at (left_next l.invariant.1 _ (chain_free (length a.used.now) a.used.now a.c l.h l.map some _ (omega arith) sound) (group_free (length a.used.now) a.used.now a.c _ sound some).0 c.in_ok-mark.ensures c.mark.auto.map))
+    (omega (arith, c.type_inv.used l.h), rw less at (left_next l.invariant.1 _ (chain_free (length a.used.now) a.used.now a.c l.h l.map some _ (omega arith) sound) (group_free (length a.used.now) a.used.now a.c _ sound some).0 c.in_ok-mark.ensures refl c.mark.auto.map))
 
 pub returns-then-h-ne0 : goal.returns-then-h-ne0
 returns-then-h-ne0 c =
