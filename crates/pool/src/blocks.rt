@@ -1,11 +1,11 @@
 // Blocks: taken, freed, and exchanged for one of another class.
-ghost use Rattle.std.specs.Prelude.{◌≡◌, true, ◌+◌, length};
+ghost use Rattle.std.specs.Prelude.{◌≡◌, ◌≤◌, ◌+◌, length};
 ghost use Rattle.sizes.specs.Class.{size_of};
-ghost use Rattle.pool.specs.Numbers.{needs_block};
 ghost use Rattle.pool.specs.Blocks as blocks;
 ghost use Rattle.pool.specs.Steps.{CanAlloc, CanFree, CanRealloc, CanResize, Takes, freed};
 
 use super::ListPool;
+use super::numbers::needs_block;
 use sizes::SizeClass;
 
 impl ListPool {
@@ -50,11 +50,17 @@ impl ListPool {
         at
     }
 
-    // Takes the block for the new length of the list at the handle h, which has the old one; it is called where another block is needed.
+    // Returns where the block starts that the list at the handle h, of the old length, lies in with the new one: its own, or another that is taken where
+    // one is needed.
     pub(super) fn moved(&mut self, pool: &mut [u32], h: u32, old: u32, new: u32) -> usize
-        requires { (CanResize self.old (length pool.old) h old new) × (needs_block old new ≡ true) }
-        ensures { Takes (length pool.old) (blocks.moved self.old pool.old h old new) (new + 1) result self.new pool.new }
+        requires { (CanResize self.old (length pool.old) h old new) × (1 ≤ new) }
+        ensures { Takes (length pool.old)
+            (blocks.moved self.old pool.old h old new)
+            (new + 1) result self.new pool.new }
     {
+        if !needs_block(old, new) {
+            return h as usize - 1;
+        }
         let to = SizeClass::for_length(new);
         if old == 0 {
             return self.alloc(pool, to);

@@ -18,15 +18,9 @@ impl ListPool {
         let h = handles[slot];
         let old = numbers::length_at(pool, h);
         let new = old as usize + 1;
-        if numbers::needs_block(old, old + 1) {
-            let block = self.moved(pool, h, old, old + 1);
-            pool[block + new] = element;
-            steps::seat(pool, handles, slot, block, old + 1);
-        } else {
-            let at = h as usize - 1;
-            pool[at + new] = element;
-            steps::seat(pool, handles, slot, at, old + 1);
-        }
+        let block = self.moved(pool, h, old, old + 1);
+        pool[block + new] = element;
+        steps::seat(pool, handles, slot, block, old + 1);
         old
     }
 

@@ -56,11 +56,9 @@ impl ListPool {
     {
         if new == 0 {
             self.release(pool, handles, slot, h, old);
-        } else if numbers::needs_block(old, new) {
+        } else {
             let block = self.moved(pool, h, old, new);
             seat(pool, handles, slot, block, new);
-        } else {
-            seat(pool, handles, slot, h as usize - 1, new);
         }
     }
 
