@@ -11,12 +11,9 @@
 //           ^ a head or next = block start + 1; 0 ends the chain
 #![tactic(auto)]
 
-ghost use Rattle.std.specs.Prelude.{◌≡◌};
-ghost use Rattle.pool.specs.Refusals.{refusal_number};
-ghost use Rattle.pool.specs.Rules as rules;
-
 use sizes::SizeClass;
 
+mod answers;
 mod blocks;
 pub mod checks;
 mod growing;
@@ -53,59 +50,16 @@ pub struct Part {
     pub end: usize,
 }
 
-// Why a call is refused, in the order of paper 01's table of numbers.
+// Why a call is refused, with the number of each in paper 01's table.
 #[derive(Clone, Copy, Debug, PartialEq, Eq)]
 pub enum Refusal {
-    OverLimit,
-    NoSlot,
-    UnsoundHandle,
-    OutsideList,
-    SlotsClash,
-    UnsoundHead,
-    NoRoom,
-    ShortMap,
-    NotSound,
-}
-
-// The number of a refusal in that table.
-impl From<Refusal> for u32 {
-    ghost from_gives = { λ refusal number. number ≡ refusal_number refusal };
-
-    fn from(refusal: Refusal) -> u32 {
-        match refusal {
-            Refusal::OverLimit => 1,
-            Refusal::NoSlot => 2,
-            Refusal::UnsoundHandle => 3,
-            Refusal::OutsideList => 4,
-            Refusal::SlotsClash => 5,
-            Refusal::UnsoundHead => 6,
-            Refusal::NoRoom => 7,
-            Refusal::ShortMap => 8,
-            Refusal::NotSound => 9,
-        }
-    }
-}
-
-impl ListPool {
-    // Refuses a call: the value is 0, and the state is as it was.
-    pub fn refused(self, refusal: Refusal) -> Answer
-        ensures { result ≡ rules.answer (refusal_number refusal) 0 self }
-    {
-        Answer {
-            number: u32::from(refusal),
-            value: 0,
-            state: self,
-        }
-    }
-
-    // Answers a call that is done with its value and the next state.
-    pub fn done(self, value: u32) -> Answer
-        ensures { result ≡ rules.answer 0 value self }
-    {
-        Answer {
-            number: 0,
-            value,
-            state: self,
-        }
-    }
+    OverLimit = 1,
+    NoSlot = 2,
+    UnsoundHandle = 3,
+    OutsideList = 4,
+    SlotsClash = 5,
+    UnsoundHead = 6,
+    NoRoom = 7,
+    ShortMap = 8,
+    NotSound = 9,
 }
