@@ -1,11 +1,11 @@
 // Blocks: taken, freed, and exchanged for one of another class.
-ghost use Rattle.std.specs.Prelude.{◌≡◌, ◌≤◌, ◌+◌, length};
+ghost use Rattle.std.specs.Prelude.{◌≡◌, ◌≤◌, true, ◌+◌, length};
 ghost use Rattle.sizes.specs.Class.{size_of};
+ghost use Rattle.pool.specs.Numbers.{needs_block};
 ghost use Rattle.pool.specs.Blocks as blocks;
 ghost use Rattle.pool.specs.Steps.{CanAlloc, CanFree, CanRealloc, CanResize, Takes, freed};
 
-use super::ListPool;
-use super::numbers::needs_block;
+use super::{ListPool, numbers};
 use sizes::SizeClass;
 
 impl ListPool {
@@ -50,22 +50,34 @@ impl ListPool {
         at
     }
 
-    // Returns where the block starts that the list at the handle h, of the old length, lies in with the new one: its own, or another that is taken where
-    // one is needed.
-    pub(super) fn moved(&mut self, pool: &mut [u32], h: u32, old: u32, new: u32) -> usize
-        requires { (CanResize self.old (length pool.old) h old new) × (1 ≤ new) }
+    // Takes the block for the new length of the list at the handle h, which has the old one; it is called where another block is needed.
+    fn moved_away(&mut self, pool: &mut [u32], h: u32, old: u32, new: u32) -> usize
+        requires { (CanResize self.old (length pool.old) h old new) × (needs_block old new ≡ true) }
         ensures { Takes (length pool.old)
             (blocks.moved self.old pool.old h old new)
             (new + 1) result self.new pool.new }
     {
-        if !needs_block(old, new) {
-            return h as usize - 1;
-        }
         let to = SizeClass::for_length(new);
         if old == 0 {
             return self.alloc(pool, to);
         }
         let from = SizeClass::for_length(old);
         self.realloc(pool, h as usize - 1, from, to, old.min(new) as usize + 1)
+    }
+
+    // Returns where the block starts that the list at the handle h, of the old length, lies in with the new one: its own, or another that is taken where
+    // one is needed.
+    #[inline(always)]
+    pub(super) fn moved(&mut self, pool: &mut [u32], h: u32, old: u32, new: u32) -> usize
+        requires { (CanResize self.old (length pool.old) h old new) × (1 ≤ new) }
+        ensures { Takes (length pool.old)
+            (blocks.moved self.old pool.old h old new)
+            (new + 1) result self.new pool.new }
+    {
+        if numbers::needs_block(old, new) {
+            self.moved_away(pool, h, old, new)
+        } else {
+            h as usize - 1
+        }
     }
 }
