@@ -1,5 +1,6 @@
 // The calls that make a list longer.
 ghost use Rattle.std.specs.Prelude.{◌≡◌, ◌+◌, ◌≤◌, length};
+ghost use Rattle.pool.specs.Numbers.{handle_at};
 ghost use Rattle.pool.specs.Rules as rules;
 ghost use Rattle.pool.specs.Rules.{answer, called, outcome, len_of};
 ghost use Rattle.pool.specs.Steps.{CanCopy, Meets, Ready};
@@ -36,7 +37,31 @@ impl ListPool {
         words::store(pool, first + old, elements);
     }
 
-    // Does a `copy_from`: grows the list, shifts the tail up from the position on, and fills the places that opens with the source's range.
+    // Opens a count of places in the list in a slot, and returns where they start in the pool: grows the list, and shifts the tail up from the position
+    // on. It is made part of what it serves, for speed.
+    #[inline(always)]
+    fn opened(
+        &mut self,
+        pool: &mut [u32],
+        handles: &mut [u32],
+        slot: usize,
+        position: usize,
+        count: usize,
+    ) -> usize
+        requires { (position ≤ len_of pool.old handles.old slot)
+            × (Ready self.old pool.old handles.old slot (len_of pool.old handles.old slot + count)) }
+        ensures rule { outcome (answer 0 0 self.new) pool.new handles.new
+            ≡ rules.opened self.old pool.old handles.old slot position count }
+        ensures place { (result ≡ handle_at handles.new slot + position) × (result + count ≤ length pool.new) }
+    {
+        let old = numbers::length_at(pool, handles[slot]) as usize;
+        self.grow(pool, handles, slot, count);
+        let at = handles[slot] as usize + position;
+        words::copy(pool, at, at + count, old - position);
+        at
+    }
+
+    // Does a `copy_from`: opens places for the source's range, and copies it there.
     fn copy_from_done(
         &mut self,
         pool: &mut [u32],
@@ -52,11 +77,8 @@ impl ListPool {
             ≡ rules.copy_from_done self.old pool.old handles.old slot source start end position }
     {
         let from = handles[source] as usize + start;
-        let old = numbers::length_at(pool, handles[slot]) as usize;
         let count = end - start;
-        self.grow(pool, handles, slot, count);
-        let at = handles[slot] as usize + position;
-        words::copy(pool, at, at + count, old - position);
+        let at = self.opened(pool, handles, slot, position, count);
         words::copy(pool, from, at, count);
     }
 
@@ -78,26 +100,6 @@ impl ListPool {
         let at = handles[slot] as usize + position;
         words::copy(pool, at, at + 1, old - position);
         pool[at] = element;
-    }
-
-    // Does a `grow_at`: grows the list, and shifts the tail up from the position on.
-    fn grow_at_done(
-        &mut self,
-        pool: &mut [u32],
-        handles: &mut [u32],
-        slot: usize,
-        position: usize,
-        count: usize,
-    )
-        requires { (position ≤ len_of pool.old handles.old slot)
-            × (Ready self.old pool.old handles.old slot (len_of pool.old handles.old slot + count)) }
-        ensures { outcome (answer 0 0 self.new) pool.new handles.new
-            ≡ rules.grow_at_done self.old pool.old handles.old slot position count }
-    {
-        let old = numbers::length_at(pool, handles[slot]) as usize;
-        self.grow(pool, handles, slot, count);
-        let at = handles[slot] as usize + position;
-        words::copy(pool, at, at + count, old - position);
     }
 
     // Appends an element to the list in a slot; the value is the old length.
@@ -198,7 +200,7 @@ impl ListPool {
     {
         match self.check_grow_at(pool, handles, slot, position, count) {
             Ok(()) => {
-                self.grow_at_done(pool, handles, slot, position, count);
+                self.opened(pool, handles, slot, position, count);
                 self.done(0)
             }
             Err(refusal) => self.refused(refusal),

@@ -1,16 +1,16 @@
 -- `grow_at` meets its contract: refused with its number, or done.
 use Rattle.std.proofs.Common.{sym}
-use Rattle.pool.specs.Rules.{number_of, done_of}
+use Rattle.pool.specs.Rules.{number_of, done_of, grow_at_done}
 use Rattle.pool.proofs.Facts.{grow_at_facts}
 use Rattle.pool.proofs.Refusals.{refused_called, done_called}
 use Rattle.pool.proofs.ListPool.grow_at.Goals as goal
 
-pub grow_at_done-requires : goal.grow_at_done-requires
-grow_at_done-requires c = grow_at_facts _ _ _ _ _ _ (sym c.in-Ok.ensures)
+pub opened-requires : goal.opened-requires
+opened-requires c = grow_at_facts _ _ _ _ _ _ (sym c.in-Ok.ensures)
 
 pub returns-in-Ok : goal.returns-in-Ok
-unfolding number_of done_of
-returns-in-Ok c = done_called _ _ _ _ c.in-Ok.ensures c.done.ensures c.grow_at_done.ensures
+unfolding number_of done_of grow_at_done
+returns-in-Ok c = done_called _ _ _ _ c.in-Ok.ensures c.done.ensures c.opened.ensures.rule
 
 pub returns-in-Err : goal.returns-in-Err
 unfolding number_of
