@@ -124,8 +124,8 @@ function rattle(    words, item) {
         return
     }
     if (!open) return
-    if ($0 ~ /^ *requires \{/) kind = kind " requires"
-    else if ($0 ~ /^ *ensures \{/) kind = kind " ensures"
+    if ($0 ~ /^ *requires ([a-z_]+ )?\{/) kind = kind " requires"
+    else if ($0 ~ /^ *ensures ([a-z_]+ )?\{/) kind = kind " ensures"
     else if ($0 ~ /\{$/) flush()
 }
 
@@ -133,7 +133,7 @@ function rattle(    words, item) {
 function hold(    line) {
     line = $0
     sub(/ *\/\/.*/, "", line)
-    if (holding_part == "signature" && line ~ /^ *(requires|ensures) \{/) {
+    if (holding_part == "signature" && line ~ /^ *(requires|ensures) ([a-z_]+ )?\{/) {
         held_text()
         holding_part = "contract"
     }

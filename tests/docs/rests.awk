@@ -214,7 +214,7 @@ function rattle(    name, place) {
         of_file[function_name] = of_file[method_name] = file
         return
     }
-    if ($0 ~ /^ *(requires|ensures) \{/) contract($0)
+    if ($0 ~ /^ *(requires|ensures) ([a-z_]+ )?\{/) contract($0)
 }
 
 function contract(line,    opened, closed) {
