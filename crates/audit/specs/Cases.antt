@@ -1,11 +1,10 @@
 -- The four ways an audit ends, in 01's order: over a limit, the map too short, accepted, not accepted.
 use Rattle.std.specs.Prelude.{◌≡◌, Bool, true, List, ℕ, ◌/◌, ◌≤◌, ◌<◌, get_or, replicate}
 use Rattle.std.proofs.Math.Path.{refl}
-use Rattle.std.proofs.Common.{ap, zero-add, arith}
+use Rattle.std.proofs.Common.{ap, zero-add, arith, lt-ltb, le-ltb}
 use Rattle.std.proofs.Math.Bool.{false}
 use Rattle.std.proofs.Math.Option.{Option, none, some}
 use Rattle.std.proofs.Math.Decide.{dec_lt}
-use Rattle.std.proofs.Common.{lt-ltb, le-ltb}
 use Rattle.std.proofs.Math.ListN.{length}
 use Rattle.std.proofs.lemmas.List.{length-replicate}
 use Rattle.words.specs.Runs.{filled}

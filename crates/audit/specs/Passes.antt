@@ -1,15 +1,13 @@
 -- The audit's passes over the map: what each ensures, and the laws of the rules by which a loop goes through them, a turn at a time.
-use Rattle.std.proofs.Common.{ℕ, zero, suc, ◌+◌, ◌-◌, ◌/◌, ◌≤◌, ◌<◌}
+use Rattle.std.proofs.Common.{ℕ, zero, suc, ◌+◌, ◌-◌, ◌/◌, ◌≤◌, ◌<◌, sym, ◌∙◌, drop_of_length-le, drop-drop, drop_at, get_or-take, zero-add, add-one}
 use Rattle.std.specs.Prelude.{◌≡◌, refl, Bool, true, false, cond, List, ◌∷◌, ◌++◌, get_or, take, drop, replicate, eqb}
-use Rattle.std.proofs.Common.{sym, ◌∙◌, drop_of_length-le, drop-drop, drop_at, get_or-take, zero-add, add-one}
 use Rattle.std.proofs.Math.Path.{ap}
 use Rattle.std.proofs.Math.Option.{Option, none, some}
 use Rattle.std.proofs.Math.ListN.{length, length-take}
 use Rattle.std.proofs.lemmas.List.{length-replicate}
 use Rattle.std.proofs.lemmas.List.Edits.{sets-eq}
 use Rattle.std.proofs.Math.Seq.{drop-cons}
-use Rattle.std.proofs.Common.{eq-eqb, ne_eqb}
-use Rattle.std.proofs.Common.{arith}
+use Rattle.std.proofs.Common.{eq-eqb, ne_eqb, arith}
 use Rattle.sizes.specs.Class.{class_of}
 use Rattle.sizes.proofs.Laws.{size_least}
 use Rattle.words.specs.Runs.{filled}

@@ -1,15 +1,12 @@
 -- How often the blocks of a map's marks are over a word, and what the sweep says of it: it passes exactly where they follow one another
 -- without gap or overlap, up to the end. Throughout `ws` is the pool's words and `i` a word of it.
-use Rattle.std.specs.Prelude.{◌≡◌, Bool, not, ◌&&◌, ◌⊎◌, get_or, set}
+use Rattle.std.specs.Prelude.{◌≡◌, Bool, not, ◌&&◌, ◌⊎◌, get_or, set, List, [], ◌∷◌}
 use Rattle.std.proofs.Math.Path.{refl, sym, ap}
 use Rattle.std.proofs.Common.{◌∙◌, add-mul, not-suc-le-zero, le_of_suc-le-suc, eq-zero-or-pos, get_or-set_same, get_or-set_other}
 use Rattle.std.proofs.Math.Bool.{true, false, cond}
-use Rattle.std.specs.Prelude.{List, [], ◌∷◌}
 use Rattle.std.proofs.Math.Logic.{inl, inr}
-use Rattle.std.proofs.Common.{ℕ, zero, suc, ◌+◌, ◌-◌, ◌*◌, ◌≤◌, ◌<◌}
-use Rattle.std.proofs.Common.{arith}
+use Rattle.std.proofs.Common.{ℕ, zero, suc, ◌+◌, ◌-◌, ◌*◌, ◌≤◌, ◌<◌, arith, lt-ltb, le-ltb, eq-eqb, ne_eqb}
 use Rattle.std.proofs.Math.Decide.{dec_le, dec_lt, ℕ_discrete}
-use Rattle.std.proofs.Common.{lt-ltb, le-ltb, eq-eqb, ne_eqb}
 use Rattle.std.proofs.lemmas.Bool.{eqb-true, eqb-false, not-true}
 use Rattle.std.proofs.Math.ListN.{length, length-set}
 use Rattle.std.proofs.Math.Dec.{eqb}

@@ -1,13 +1,9 @@
 -- The marks of a pool's blocks, and what it says that the handles or the chains of a pool could all be marked: they are locally sound,
 -- the chains end, and the marks of their blocks were made in the map one after another.
-use Rattle.std.specs.Prelude.{◌≡◌, Bool, true, false, cond, ◌⊎◌, ◌↔◌, length, get_or, set, take, eqb}
+use Rattle.std.specs.Prelude.{◌≡◌, Bool, true, false, cond, ◌⊎◌, ◌↔◌, length, get_or, set, take, eqb, List, [], ◌∷◌, ◌++◌}
 use Rattle.std.proofs.Math.Path.{refl, ap}
-use Rattle.std.proofs.Common.{sym, ◌∙◌, inl, inr, eq-zero-or-pos, le_of_suc-le-suc}
-use Rattle.std.specs.Prelude.{List, [], ◌∷◌, ◌++◌}
+use Rattle.std.proofs.Common.{sym, ◌∙◌, inl, inr, eq-zero-or-pos, le_of_suc-le-suc, ℕ, zero, suc, ◌+◌, ◌-◌, ◌/◌, ◌≤◌, ◌<◌, arith, eq-eqb, ne_eqb}
 use Rattle.std.proofs.Math.Option.{Option, none, some, none-ne-some}
-use Rattle.std.proofs.Common.{ℕ, zero, suc, ◌+◌, ◌-◌, ◌/◌, ◌≤◌, ◌<◌}
-use Rattle.std.proofs.Common.{arith}
-use Rattle.std.proofs.Common.{eq-eqb, ne_eqb}
 use Rattle.std.proofs.lemmas.Bool.{eqb-true}
 use Rattle.pool.specs.declared.ListPool.{ListPool}
 use Rattle.pool.specs.Numbers.{head_of, handle_at, sound_handle, sound_head}

@@ -1,6 +1,5 @@
 -- `sound_handle` meets its contract: the tests are the definition's, in its order, and past the pool's end there is no length.
-use Rattle.std.proofs.Common.{arith}
-use Rattle.std.proofs.Common.{◌-◌}
+use Rattle.std.proofs.Common.{arith, ◌-◌}
 use Rattle.std.proofs.Math.ListN.{get_or-eq_default}
 use Rattle.pool.specs.Numbers.{sound_handle}
 use Rattle.pool.proofs.Tests.{tests}
