@@ -12,7 +12,7 @@ ghost use Rattle.audit.specs.Passes.{Passed};
 use pool::{Answer, ListPool, Refusal, checks};
 use sizes::SizeClass;
 
-// What a free block's mark adds to its class.
+// What a free block's mark adds to its class. Marks are numbers since C is handed the map.
 const FREE: u32 = 2147483648;
 
 // A pool that is not sound.

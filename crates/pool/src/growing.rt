@@ -142,7 +142,7 @@ impl ListPool {
         }
     }
 
-    // Copies the elements from start to end of the list in the slot `source` into the list in a slot, at a position.
+    // Copies the elements from start to end (paper 01 has these two, and no range) of the list in the slot `source` into the list in a slot, at a position.
     pub fn copy_from(
         mut self,
         pool: &mut [u32],

@@ -9,6 +9,8 @@
 //
 //     | 0 | next | anything .. |
 //           ^ a head or next = block start + 1; 0 ends the chain
+//
+// So blocks name one another by index, and no list and no chain by 0: these words are the log that is dumped, and C lends them.
 #![tactic(auto)]
 
 use sizes::SizeClass;
@@ -33,7 +35,8 @@ pub struct ListPool {
     pub heads: [u32; SizeClass::COUNT],
 }
 
-// What a call answers: the number (0 where it is done), the value, and the next state. For C it is a number beside a value, and no `Result`.
+// What a call answers: the number (0 where it is done), the value, and the next state. Paper 01 has a number beside a value, and no `Result`, and C is handed
+// it; the contract of each call is an equation with it.
 #[repr(C)]
 #[derive(Clone, Copy, Debug, Default, PartialEq, Eq)]
 pub struct Answer {
@@ -42,7 +45,7 @@ pub struct Answer {
     pub state: ListPool,
 }
 
-// Where the elements of a list lie in the pool.
+// Where the elements of a list lie in the pool: for C a start and an end, and no range.
 #[repr(C)]
 #[derive(Clone, Copy, Debug, Default, PartialEq, Eq)]
 pub struct Part {

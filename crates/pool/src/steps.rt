@@ -1,7 +1,8 @@
 // The steps that calls share, once a call is not refused.
 //
 // Pool, table and slot are handed from function to function apart, as C hands them in: of a struct that holds the two `&mut`, each clause would have to say
-// that its fields are still those that were lent. So are a list's handle and length: the rules (`moved`, `cleared`, `resized`) take them apart.
+// that its fields are still those that were lent. What is asked of them (`Ready`, a slot below the table's length) is asked in each contract for that reason. A
+// list's handle and length, and its old length and its new, are numbers of which each function has other pairs.
 ghost use Rattle.std.specs.Prelude.{◌≡◌, ◌+◌, ◌≤◌, ◌<◌, length, set};
 ghost use Rattle.pool.specs.Numbers.{pool_limit};
 ghost use Rattle.pool.specs.Rules as rules;

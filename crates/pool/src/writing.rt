@@ -7,7 +7,8 @@ ghost use Rattle.pool.specs.Parts.{LiesInMut};
 use super::{Answer, ListPool, Part};
 
 impl ListPool {
-    // Returns the elements of the list in a slot, to be written: a part of the pool, empty where reading the list is refused.
+    // Returns the elements of the list in a slot, to be written: a part of the pool, empty where reading the list is refused. It stands beside `as_slice`
+    // since no function is both of a `&` and of a `&mut`.
     pub fn as_mut_slice<'a>(
         self,
         pool: &'a mut [u32],

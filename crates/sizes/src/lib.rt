@@ -24,7 +24,7 @@ impl SizeClass {
         30 - u32::leading_zeros(n | 3)
     }
 
-    // Returns how many words a block of the class c has; 0 for a class whose size no 64-bit word holds.
+    // Returns how many words a block of the class c has; 0, and no `None`, for a class whose size no 64-bit word holds, as C has it.
     pub fn size(c: u32) -> usize
         ensures { SizeOf c result }
     {
