@@ -24,16 +24,7 @@ pub fn length_at(pool: &[u32], h: u32) -> u32
 pub fn needs_block(old: u32, new: u32) -> bool
     ensures { result ≡ numbers.needs_block old new }
 {
-    if new == 0 {
-        return false;
-    }
-    if old == 0 {
-        return true;
-    }
-    if new > SizeClass::LONGEST {
-        return true;
-    }
-    SizeClass::for_length(old) != SizeClass::for_length(new)
+    new != 0 && (old == 0 || new > SizeClass::LONGEST || SizeClass::for_length(old) != SizeClass::for_length(new))
 }
 
 impl ListPool {
