@@ -11,7 +11,7 @@ returns-then-used-pool c =
     elim c.if-too_long.branch [
       | then-too_long w ↦ search (tests, ← c.too_long.ensures, w.if-too_long.true)
       | else-too_long w ↦ search (tests, ← c.too_long.ensures, w.if-too_long.false, ← w.value-is, c.if-used-pool.true)
-      ]
+    ]
 
 pub returns-else-used-pool : goal.returns-else-used-pool
 unfolding over_limit
@@ -19,4 +19,4 @@ returns-else-used-pool c =
     elim c.if-too_long.branch [
       | then-too_long w ↦ absurd (true≢false (sym w.if-too_long.true ∙ sym w.value-is ∙ c.if-used-pool.false))
       | else-too_long w ↦ search (tests, ← c.too_long.ensures, w.if-too_long.false, ← w.value-is, c.if-used-pool.false)
-      ]
+    ]

@@ -18,7 +18,7 @@ returns-then-h-ne1 c =
       | then-h-ne1-via-then-h-ne1 w ↦ search tests
       | then-h-ne1-via-else-h-ne1+then-at-used w ↦ search tests
       | then-h-ne1-via-else-h-ne1+else-at-used+then-at-pool w ↦ search (tests, get_or-eq_default a.pool.now 0 {n = a.h - 1} (omega arith))
-      ]
+    ]
 
 pub returns-then-n-ge1 : goal.returns-then-n-ge1
 unfolding sound_handle

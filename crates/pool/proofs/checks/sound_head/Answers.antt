@@ -20,7 +20,7 @@ returns-then-h-ne1 c =
     elim c.then-h-ne1.branch [
       | then-h-ne1-via-then-h-ne1 w ↦ search tests
       | then-h-ne1-via-else-h-ne1+then-c-ge62 w ↦ let wide = size_beyond w.if-c-ge62.true in search (tests, lt-leb (a.h - 1 + size_of a.c) a.used (omega arith))
-      ]
+    ]
 
 pub returns-then-at-pool : goal.returns-then-at-pool
 unfolding sound_head

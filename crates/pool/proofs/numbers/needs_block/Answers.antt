@@ -12,7 +12,7 @@ returns-then-new-gt-LONGEST c =
     elim c.if-old-eq0.branch [
       | then-old-eq0 w ↦ search tests
       | else-old-eq0 w ↦ let e = c.if-new-gt-LONGEST.either in let long : longest < c.args.new = omega arith in search tests
-      ]
+    ]
 
 pub returns-else-new-gt-LONGEST : goal.returns-else-new-gt-LONGEST
 unfolding needs_block
