@@ -14,23 +14,14 @@ pub const TABLE_LIMIT: usize = 16384;
 pub fn too_long(pool: usize, table: usize) -> bool
     ensures { result ≡ numbers.too_long pool table }
 {
-    if pool > POOL_LIMIT {
-        return true;
-    }
-    table > TABLE_LIMIT
+    pool > POOL_LIMIT || table > TABLE_LIMIT
 }
 
 // Returns whether a limit is passed: a length over its own, or a used count above the pool's length or not a multiple of 4.
 pub fn over_limit(used: u32, pool: usize, table: usize) -> bool
     ensures { result ≡ numbers.over_limit used pool table }
 {
-    if too_long(pool, table) {
-        return true;
-    }
-    if used as usize > pool {
-        return true;
-    }
-    used % 4 != 0
+    too_long(pool, table) || used as usize > pool || used % 4 != 0
 }
 
 // Returns whether a handle is locally sound.
@@ -40,21 +31,12 @@ pub fn sound_handle(used: usize, pool: &[u32], h: u32) -> bool
     if h == 0 {
         return true;
     }
-    if h % 4 != 1 {
-        return false;
-    }
     let at = h as usize;
-    if at >= used {
-        return false;
-    }
-    if at > pool.len() {
+    if h % 4 != 1 || at >= used || at > pool.len() {
         return false;
     }
     let n = pool[at - 1];
-    if n < 1 {
-        return false;
-    }
-    at - 1 + SizeClass::size(SizeClass::for_length(n)) <= used
+    n >= 1 && at - 1 + SizeClass::size(SizeClass::for_length(n)) <= used
 }
 
 // Returns whether a head of the class c is locally sound.
@@ -64,20 +46,11 @@ pub fn sound_head(used: usize, pool: &[u32], c: u32, h: u32) -> bool
     if h == 0 {
         return true;
     }
-    if h % 4 != 1 {
-        return false;
-    }
-    // No block of such a class lies below used: its size is over 64 bits, and `SizeClass::size` gives 0 for it.
-    if c >= 62 {
+    // No block of a class over 61 lies below used: its size is over 64 bits, and `SizeClass::size` gives 0 for it.
+    if h % 4 != 1 || c >= 62 {
         return false;
     }
     let at = h as usize;
-    if at - 1 + SizeClass::size(c) > used {
-        return false;
-    }
     // A word that is not there counts as 0, as in the rule. Where used is within the pool, as it is wherever a head is judged, it is there.
-    if at > pool.len() {
-        return true;
-    }
-    pool[at - 1] == 0
+    at - 1 + SizeClass::size(c) <= used && (at > pool.len() || pool[at - 1] == 0)
 }

@@ -24,16 +24,10 @@ pub fn length_at(pool: &[u32], h: u32) -> u32
 pub fn needs_block(old: u32, new: u32) -> bool
     ensures { result ≡ numbers.needs_block old new }
 {
-    if new == 0 {
-        return false;
-    }
-    if old == 0 {
-        return true;
-    }
-    if new > SizeClass::LONGEST {
-        return true;
-    }
-    SizeClass::for_length(old) != SizeClass::for_length(new)
+    new != 0
+        && (old == 0
+            || new > SizeClass::LONGEST
+            || SizeClass::for_length(old) != SizeClass::for_length(new))
 }
 
 impl ListPool {
@@ -72,16 +66,13 @@ impl ListPool {
         if checks::over_limit(self.used, pool.len(), handles.len()) {
             return Err(Refusal::OverLimit);
         }
-        if slot >= handles.len() {
+        if slot >= handles.len() || other >= handles.len() {
             return Err(Refusal::NoSlot);
         }
-        if other >= handles.len() {
-            return Err(Refusal::NoSlot);
-        }
-        if !checks::sound_handle(self.used as usize, pool, handles[slot]) {
-            return Err(Refusal::UnsoundHandle);
-        }
-        if !checks::sound_handle(self.used as usize, pool, handles[other]) {
+        let used = self.used as usize;
+        if !checks::sound_handle(used, pool, handles[slot])
+            || !checks::sound_handle(used, pool, handles[other])
+        {
             return Err(Refusal::UnsoundHandle);
         }
         Ok(())
@@ -192,10 +183,7 @@ impl ListPool {
         ensures { check_number result ≡ rules.take_number self.now.used pool.now handles.now slot to }
     {
         self.check_entries(pool, handles, slot, to)?;
-        if slot == to {
-            return Err(Refusal::SlotsClash);
-        }
-        if handles[to] != 0 {
+        if slot == to || handles[to] != 0 {
             return Err(Refusal::SlotsClash);
         }
         Ok(())
@@ -231,13 +219,10 @@ impl ListPool {
     {
         self.check_entries(pool, handles, slot, source)?;
         let old = length_at(pool, handles[slot]);
-        if position > old as usize {
-            return Err(Refusal::OutsideList);
-        }
-        if start > end {
-            return Err(Refusal::OutsideList);
-        }
-        if end > length_at(pool, handles[source]) as usize {
+        if position > old as usize
+            || start > end
+            || end > length_at(pool, handles[source]) as usize
+        {
             return Err(Refusal::OutsideList);
         }
         if handles[slot] == handles[source] {
@@ -260,7 +245,7 @@ impl ListPool {
     {
         self.check_entry(pool, handles, slot)?;
         let old = length_at(pool, handles[slot]);
-        if (old as usize) < position {
+        if position > old as usize {
             return Err(Refusal::OutsideList);
         }
         self.check_more(pool, old, count)

@@ -5,6 +5,7 @@ use Rattle.pool.specs.Rules.{copy_from_number}
 use Rattle.pool.proofs.Refusals.{stopped, entered₂}
 use Rattle.pool.proofs.Tests.{tests}
 use Rattle.pool.proofs.ListPool.check_copy_from.Goals as goal
+use Rattle.pool.proofs.ListPool.check_copy_from.Goals.{then-position-old-via-then-position-old, then-position-old-via-else-position-old+then-start-end, then-position-old-via-else-position-old+else-start-end+then-end-length_at}
 
 pub returns-in_err-check_entries : goal.returns-in_err-check_entries
 unfolding copy_from_number
@@ -19,14 +20,6 @@ bounds-handles-slot c = (entered₂ c.in_ok-check_entries.ensures).0.inside
 pub length_at-old-requires : goal.length_at-old-requires
 length_at-old-requires c = (entered₂ c.in_ok-check_entries.ensures).0.list.below
 
-pub returns-then-position-old : goal.returns-then-position-old
-unfolding copy_from_number given ◌or_else◌
-returns-then-position-old c = search (tests, ← c.in_ok-check_entries.ensures, ← c.length_at-old.ensures)
-
-pub returns-then-start-end : goal.returns-then-start-end
-unfolding copy_from_number given ◌or_else◌
-returns-then-start-end c = search (tests, ← c.in_ok-check_entries.ensures, ← c.length_at-old.ensures)
-
 pub offset_bounds-handles-source : goal.offset_bounds-handles-source
 offset_bounds-handles-source c = let f = entered₂ c.in_ok-check_entries.ensures in omega arith
 
@@ -36,9 +29,15 @@ bounds-handles-source c = (entered₂ c.in_ok-check_entries.ensures).1.inside
 pub length_at-requires : goal.length_at-requires
 length_at-requires c = (entered₂ c.in_ok-check_entries.ensures).1.list.below
 
-pub returns-then-end-length_at : goal.returns-then-end-length_at
+pub returns-then-position-old : goal.returns-then-position-old
 unfolding copy_from_number given ◌or_else◌
-returns-then-end-length_at c = search (tests, ← c.in_ok-check_entries.ensures, ← c.length_at-old.ensures, ← c.length_at.ensures)
+returns-then-position-old c =
+    let n = c.length_at-old.ensures in
+    elim c.then-position-old.branch [
+      | then-position-old-via-then-position-old w ↦ search (tests, ← c.in_ok-check_entries.ensures, ← n)
+      | then-position-old-via-else-position-old+then-start-end w ↦ search (tests, ← c.in_ok-check_entries.ensures, ← n)
+      | then-position-old-via-else-position-old+else-start-end+then-end-length_at w ↦ search (tests, ← c.in_ok-check_entries.ensures, ← n, ← w.length_at.ensures)
+    ]
 
 pub offset_bounds-handles-slot-2 : goal.offset_bounds-handles-slot-2
 offset_bounds-handles-slot-2 c = let f = entered₂ c.in_ok-check_entries.ensures in omega arith

@@ -2,6 +2,8 @@
 use Rattle.pool.specs.Numbers.{◌or_else◌, given, entry_number₂}
 use Rattle.pool.proofs.Tests.{tests}
 use Rattle.pool.proofs.ListPool.check_entries.Goals as goal
+use Rattle.pool.proofs.ListPool.check_entries.Goals.{then-slot-handles-via-then-slot-handles, then-slot-handles-via-else-slot-handles+then-other-handles}
+use Rattle.pool.proofs.ListPool.check_entries.Goals.{then-not-sound_handle-via-then-not-sound_handle, then-not-sound_handle-via-else-not-sound_handle+then-not-sound_handle-2}
 
 pub returns-then-over_limit : goal.returns-then-over_limit
 unfolding entry_number₂ given ◌or_else◌
@@ -9,23 +11,22 @@ returns-then-over_limit c = search (tests, ← c.over_limit.ensures, c.if-over_l
 
 pub returns-then-slot-handles : goal.returns-then-slot-handles
 unfolding entry_number₂ given ◌or_else◌
-returns-then-slot-handles c = search (tests, ← c.over_limit.ensures, c.if-over_limit.false)
-
-pub returns-then-other-handles : goal.returns-then-other-handles
-unfolding entry_number₂ given ◌or_else◌
-returns-then-other-handles c = search (tests, ← c.over_limit.ensures, c.if-over_limit.false)
+returns-then-slot-handles c =
+    elim c.then-slot-handles.branch [
+      | then-slot-handles-via-then-slot-handles w ↦ search (tests, ← c.over_limit.ensures, c.if-over_limit.false)
+      | then-slot-handles-via-else-slot-handles+then-other-handles w ↦ search (tests, ← c.over_limit.ensures, c.if-over_limit.false)
+    ]
 
 pub returns-then-not-sound_handle : goal.returns-then-not-sound_handle
 unfolding entry_number₂ given ◌or_else◌
 returns-then-not-sound_handle c =
-    search (tests, ← c.over_limit.ensures, c.if-over_limit.false, ← c.sound_handle.ensures, c.if-not-sound_handle.true)
-
-pub returns-then-not-sound_handle-2 : goal.returns-then-not-sound_handle-2
-unfolding entry_number₂ given ◌or_else◌
-returns-then-not-sound_handle-2 c =
-    search (tests, ← c.over_limit.ensures, c.if-over_limit.false, ← c.sound_handle.ensures, c.if-not-sound_handle.false, ← c.sound_handle-2.ensures, c.if-not-sound_handle-2.true)
+    elim c.then-not-sound_handle.branch [
+      | then-not-sound_handle-via-then-not-sound_handle w ↦ search (tests, ← c.over_limit.ensures, c.if-over_limit.false, ← c.sound_handle.ensures, w.if-not-sound_handle.true)
+      | then-not-sound_handle-via-else-not-sound_handle+then-not-sound_handle-2 w ↦ search (tests, ← c.over_limit.ensures, c.if-over_limit.false, ← c.sound_handle.ensures, w.if-not-sound_handle.false, ← w.sound_handle-else-not-sound_handle.ensures, w.if-not-sound_handle-2.true)
+    ]
 
 pub returns : goal.returns
 unfolding entry_number₂ given ◌or_else◌
 returns c =
-    search (tests, ← c.over_limit.ensures, c.if-over_limit.false, ← c.sound_handle.ensures, c.if-not-sound_handle.false, ← c.sound_handle-2.ensures, c.if-not-sound_handle-2.false)
+    let second = c.sound_handle-else-not-sound_handle.ensures in
+    search (tests, ← c.over_limit.ensures, c.if-over_limit.false, ← c.sound_handle.ensures, c.if-not-sound_handle.false, ← second, c.if-not-sound_handle-2.false)

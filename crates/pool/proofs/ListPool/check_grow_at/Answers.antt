@@ -19,9 +19,9 @@ bounds-handles-slot c = (entered c.in_ok-check_entry.ensures).inside
 pub length_at-old-requires : goal.length_at-old-requires
 length_at-old-requires c = (entered c.in_ok-check_entry.ensures).list.below
 
-pub returns-then-old-position : goal.returns-then-old-position
+pub returns-then-position-old : goal.returns-then-position-old
 unfolding grow_at_number given ◌or_else◌
-returns-then-old-position c = search (tests, ← c.in_ok-check_entry.ensures, ← c.length_at-old.ensures)
+returns-then-position-old c = search (tests, ← c.in_ok-check_entry.ensures, ← c.length_at-old.ensures)
 
 pub check_more-requires : goal.check_more-requires
 check_more-requires c = rw c.length_at-old.ensures (entered c.in_ok-check_entry.ensures).list.short

@@ -5,14 +5,11 @@ use Rattle.pool.specs.Rules.{take_number}
 use Rattle.pool.proofs.Refusals.{stopped, entered₂}
 use Rattle.pool.proofs.Tests.{tests}
 use Rattle.pool.proofs.ListPool.check_take.Goals as goal
+use Rattle.pool.proofs.ListPool.check_take.Goals.{then-slot-to-via-then-slot-to, then-slot-to-via-else-slot-to+then-handles-to-ne0}
 
 pub returns-in_err-check_entries : goal.returns-in_err-check_entries
 unfolding take_number
 returns-in_err-check_entries c = stopped _ _ _ c.from_residual.ensures.1 c.in_err-check_entries.ensures
-
-pub returns-then-slot-to : goal.returns-then-slot-to
-unfolding take_number given ◌or_else◌
-returns-then-slot-to c = search (tests, ← c.in_ok-check_entries.ensures)
 
 pub offset_bounds-handles-to : goal.offset_bounds-handles-to
 offset_bounds-handles-to c = let f = entered₂ c.in_ok-check_entries.ensures in omega arith
@@ -20,9 +17,13 @@ offset_bounds-handles-to c = let f = entered₂ c.in_ok-check_entries.ensures in
 pub bounds-handles-to : goal.bounds-handles-to
 bounds-handles-to c = (entered₂ c.in_ok-check_entries.ensures).1.inside
 
-pub returns-then-handles-to-ne0 : goal.returns-then-handles-to-ne0
+pub returns-then-slot-to : goal.returns-then-slot-to
 unfolding take_number given ◌or_else◌
-returns-then-handles-to-ne0 c = search (tests, ← c.in_ok-check_entries.ensures)
+returns-then-slot-to c =
+    elim c.then-slot-to.branch [
+      | then-slot-to-via-then-slot-to w ↦ search (tests, ← c.in_ok-check_entries.ensures)
+      | then-slot-to-via-else-slot-to+then-handles-to-ne0 w ↦ search (tests, ← c.in_ok-check_entries.ensures)
+    ]
 
 pub returns : goal.returns
 unfolding take_number given ◌or_else◌

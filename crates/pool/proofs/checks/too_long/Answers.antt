@@ -7,6 +7,6 @@ pub returns-then-pool-gt-POOL_LIMIT : goal.returns-then-pool-gt-POOL_LIMIT
 unfolding too_long
 returns-then-pool-gt-POOL_LIMIT c = search tests
 
-pub returns : goal.returns
+pub returns-else-pool-gt-POOL_LIMIT : goal.returns-else-pool-gt-POOL_LIMIT
 unfolding too_long
-returns c = search tests
+returns-else-pool-gt-POOL_LIMIT c = search tests
