@@ -1,4 +1,5 @@
-// The checks that the calls and the audit share, on any input whatever: the limits, and local soundness of a handle and of a head.
+// The checks that the calls and the audit share, on any input whatever: the limits, and local soundness of a handle and of a head. The used count stands
+// beside the words since a call has the whole pool, which may be shorter than it; the audit has the used words alone.
 ghost use Rattle.std.specs.Prelude.{◌≡◌};
 ghost use Rattle.pool.specs.Numbers as numbers;
 

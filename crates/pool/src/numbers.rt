@@ -1,4 +1,5 @@
-// Which number a call is refused with: paper 01's table, judged on the state at entry. Nothing is changed here.
+// Which number a call is refused with: paper 01's table, judged on the state at entry. Nothing is changed here. State, pool and table are handed in apart,
+// as each call has them: a struct of the three would be made anew in each call, for one check.
 ghost use Rattle.std.specs.Prelude.{◌≡◌, ◌+◌, ◌≤◌, length};
 ghost use Rattle.pool.specs.Numbers as numbers;
 ghost use Rattle.pool.specs.Refusals.{check_number};
