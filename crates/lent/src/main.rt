@@ -8,9 +8,6 @@ use pool::checks::{POOL_LIMIT, TABLE_LIMIT};
 use std::io;
 use std::ops::Range;
 
-// The largest word.
-const M: u32 = u32::MAX;
-
 // One word more than a pool may have.
 const MOST_WORDS: usize = POOL_LIMIT + 1;
 
@@ -28,6 +25,7 @@ fn state(used: u32) -> ListPool {
 }
 
 // Returns whether the words begin with these and every further word is 0.
+// `Bench::holds` of the program `sheet` asks the same: a crate that the two would share, for these lines, would be no plainer.
 fn holds(words: &[u32], first: &[u32]) -> bool {
     words
         .strip_prefix(first)
@@ -69,10 +67,10 @@ impl<'a> Lent<'a> {
     {
         let mut words = [0; MOST_WORDS];
         let mut slots = [0; MOST_SLOTS];
-        let Some((pool, _)) = words.split_at_mut_checked(self.pool.len()) else {
+        let Some(pool) = words.get_mut(..self.pool.len()) else {
             return false;
         };
-        let Some((handles, _)) = slots.split_at_mut_checked(self.handles.len()) else {
+        let Some(handles) = slots.get_mut(..self.handles.len()) else {
             return false;
         };
         pool.copy_from_slice(self.pool);
@@ -115,11 +113,11 @@ fn longest<F: Fn(&mut u32)>(touch: F) -> bool
     requires { F.IsAlwaysCallable touch }
 {
     let mut pool = [0; POOL_LIMIT];
-    let mut elements = [0; 65535];
+    let mut elements = [0; POOL_LIMIT - 1];
     places(&mut elements, 0);
-    pool[0] = 65535;
+    pool[0] = POOL_LIMIT as u32 - 1;
     pool[1..].copy_from_slice(&elements);
-    Lent::new(&pool, &[1]).lends(65536, 0, 1, &elements, touch)
+    Lent::new(&pool, &[1]).lends(POOL_LIMIT as u32, 0, 1, &elements, touch)
 }
 
 // The pool and the table of the groups.
@@ -186,14 +184,15 @@ impl Groups {
 
     // Runs number 1: used above the pool's length, or not a multiple of 4; pool or table over its limit.
     fn refused_1(&self) -> bool {
-        let counts = [65, 68, M - 3, M, 1, 2, 3, 33, 34, 35, 37];
+        let counts = [65, 68, u32::MAX - 3, u32::MAX, 1, 2, 3, 33, 34, 35, 37];
         self.lent().lends_none_at(&counts) && self.over_pool() && self.over_table()
     }
 
     // Runs number 2: slots past the last, up to the largest; a table without slots, and a pool without words beside.
     fn refused_2(&self) -> bool {
+        let max = u32::MAX as usize;
         self.lent().lends_none(36, 5..16)
-            && self.lent().lends_none(36, 4294967295..4294967301)
+            && self.lent().lends_none(36, max..max + 6)
             && self.lent().lends(36, usize::MAX, 0, &[], |_| ())
             && self.with(&[]).lends_none(36, 0..3)
             && Lent::new(&[], &[]).lends_none(0, 0..3)
@@ -202,8 +201,12 @@ impl Groups {
     // Runs number 3: handles that do not leave 1 on division by 4; that are not below used, in the pool and past it; that have the length 0 before them;
     // whose block ends past used, in the pool and past it. Then lists of the table where fewer words are used, and in a pool without words.
     fn refused_3(&self) -> bool {
-        self.with(&[2, 3, 4, M - 3, M - 1, M]).lends_none(36, 0..6)
-            && self.with(&[37, 61, 65, 65537, M - 2]).lends_none(36, 0..5)
+        let max = u32::MAX;
+        self.with(&[2, 3, 4, max - 3, max - 1, max])
+            .lends_none(36, 0..6)
+            && self
+                .with(&[37, 61, 65, 65537, max - 2])
+                .lends_none(36, 0..5)
             && self.with(&[13, 33, 25, 21, 29]).lends_none(36, 0..5)
             && self.lent().lends_none_at(&[0])
             && self.with(&[5, 17]).lends_none_at(&[4, 8])
@@ -224,7 +227,8 @@ impl Groups {
         requires { F.IsAlwaysCallable touch }
     {
         let list = [11, 12, 13, 14];
-        let over = [M, M, M, 0, 0, M, M, 8, 31, 32, 33, 34, 35, 36];
+        let max = u32::MAX;
+        let over = [max, max, max, 0, 0, max, max, 8, 31, 32, 33, 34, 35, 36];
         self.lent().lends(4, 0, 1, &[7, 8, 9], &touch)
             && self.lent().lends(12, 1, 5, &list, &touch)
             && self.with(&[5, 5]).lends(36, 0, 5, &list, &touch)
@@ -265,6 +269,7 @@ fn main(rt: HostRuntime) -> io::Result<()> {
         ("done", groups.done(|_| ())),
         ("written", groups.done(|word| *word = !*word)),
     ];
+    // The program `sheet` has this loop too: a crate that the two would share, for these four lines, would be no plainer.
     for (group, ok) in lines {
         let verdict = if ok { "ok" } else { "wrong" };
         println!(rt; "{group} {verdict}")?;

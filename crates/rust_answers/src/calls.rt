@@ -11,7 +11,7 @@ pub enum Call<'a> {
     OnList { slot: u32, call: ListCall<'a> },
 }
 
-// A call on the list in a slot, with its other arguments.
+// A call on the list in a slot, with its other arguments, as the line has them. As `usize` each place would be cast where it is parsed: as many casts.
 #[derive(Clone, Copy, Debug, PartialEq, Eq)]
 pub enum ListCall<'a> {
     FromSlice(&'a [u32]),
@@ -121,8 +121,8 @@ impl<'a> TryFrom<(u32, &'a [u32])> for ListCall<'a> {
 
 impl Call<'_> {
     // Makes the call.
-    pub fn make(&self, state: ListPool, pool: &mut [u32], handles: &mut [u32]) -> Answer {
-        match *self {
+    pub fn make(self, state: ListPool, pool: &mut [u32], handles: &mut [u32]) -> Answer {
+        match self {
             Call::NewPool { .. } | Call::ClearPool => state.clear_pool(pool, handles),
             Call::OnList { slot, call } => call.make(state, pool, handles, slot as usize),
         }
@@ -131,8 +131,8 @@ impl Call<'_> {
 
 impl ListCall<'_> {
     // Makes the call on the list in a slot.
-    fn make(&self, state: ListPool, pool: &mut [u32], handles: &mut [u32], slot: usize) -> Answer {
-        match *self {
+    fn make(self, state: ListPool, pool: &mut [u32], handles: &mut [u32], slot: usize) -> Answer {
+        match self {
             ListCall::FromSlice(elements) => state.from_slice(pool, handles, slot, elements),
             ListCall::IsEmpty => state.is_empty(pool, handles, slot),
             ListCall::Len => state.len(pool, handles, slot),
@@ -215,9 +215,9 @@ fn alike(ours: &[u32], rust: &[u32]) -> usize {
 
 // Writes elements to a part of the pool, 0 where there are too few, and says how long it is.
 fn written(part: &mut [u32], elements: &[u32]) -> usize {
-    part.fill(0);
-    for (word, element) in part.iter_mut().zip(elements) {
-        *word = *element;
-    }
+    let n = part.len().min(elements.len());
+    let (first, rest) = part.split_at_mut(n);
+    first.copy_from_slice(&elements[..n]);
+    rest.fill(0);
     part.len()
 }

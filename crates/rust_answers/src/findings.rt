@@ -46,13 +46,13 @@ impl fmt::Display for Place {
     // Names the number.
     fn fmt<W: fmt::Write>(&self, f: &mut fmt::Formatter<W>) -> fmt::Result {
         match self {
-            Place::Number => write!(f, "number"),
-            Place::Value => write!(f, "value"),
-            Place::Used => write!(f, "used"),
+            Place::Number => f.write_str("number"),
+            Place::Value => f.write_str("value"),
+            Place::Used => f.write_str("used"),
             Place::Head(i) => write!(f, "head {i}"),
             Place::Handle(i) => write!(f, "handle {i}"),
             Place::Word(i) => write!(f, "word {i}"),
-            Place::Audit => write!(f, "the audit's number"),
+            Place::Audit => f.write_str("the audit's number"),
         }
     }
 }
@@ -116,8 +116,8 @@ impl fmt::Display for Stop {
     // Says why, and in which line.
     fn fmt<W: fmt::Write>(&self, f: &mut fmt::Formatter<W>) -> fmt::Result {
         match self {
-            Stop::NothingRead => write!(f, "the input is empty, or cannot be read"),
-            Stop::TooMuch => write!(f, "the input is longer than this program reads"),
+            Stop::NothingRead => f.write_str("the input is empty, or cannot be read"),
+            Stop::TooMuch => f.write_str("the input is longer than this program reads"),
             Stop::InLine(line, finding) => write!(f, "line {line}: {finding}"),
         }
     }

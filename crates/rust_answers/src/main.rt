@@ -105,14 +105,12 @@ impl Bench {
 // Replays the lines of a text, up to the first in which something is found, and returns how many there are.
 fn replay(text: &[u8]) -> Result<u64, Stop> {
     let mut bench = Bench::new();
-    let mut calls = 0;
-    for (number, line) in (1..).zip(text.split_inclusive(|b| *b == b'\n')) {
-        bench
-            .step(line)
-            .map_err(|found| Stop::InLine(number, found))?;
-        calls = number;
-    }
-    Ok(calls)
+    (1..)
+        .zip(text.split_inclusive(|b| *b == b'\n'))
+        .try_fold(0, |_, (number, line)| match bench.step(line) {
+            Ok(()) => Ok(number),
+            Err(found) => Err(Stop::InLine(number, found)),
+        })
 }
 
 // Reads until the buffer is full, the input ends or a read fails, and returns what it read.

@@ -69,7 +69,8 @@ impl<'a> Bench<'a> {
         self.state.as_slice(self.lent, &self.handles, slot)
     }
 
-    // Returns whether the pool begins with these words and every further word is 0, and the handles are these.
+    // Returns whether the pool begins with these words and every further word is 0, and the handles are these. `holds` of the program `lent` asks the
+    // same of words: a crate that the two would share, for these lines, would be no plainer.
     fn holds(&self, words: &[u32], handles: [u32; 3]) -> bool {
         self.lent.strip_prefix(words).is_some_and(is_zero)
             && is_zero(self.rest)
@@ -190,6 +191,7 @@ fn main(rt: HostRuntime) -> io::Result<()> {
         bench.p11(),
         Bench::p12(),
     ];
+    // The program `lent` has this loop too: a crate that the two would share, for these four lines, would be no plainer.
     for (row, ok) in (1..).zip(rows) {
         let verdict = if ok { "ok" } else { "wrong" };
         println!(rt; "P{row} {verdict}")?;
