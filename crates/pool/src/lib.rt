@@ -26,7 +26,8 @@ mod shrinking;
 mod steps;
 mod writing;
 
-// The pool's state, a value that each call takes and hands back: how many words are used, and the head of each class's chain of free blocks.
+// The pool's state, a value that each call takes and hands back (paper 01; the words are lent beside it): how many words are used, and the head of each
+// class's chain of free blocks.
 // The default is the state of a cleared pool.
 #[repr(C)]
 #[derive(Clone, Copy, Debug, Default, PartialEq, Eq)]

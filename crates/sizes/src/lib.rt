@@ -3,7 +3,7 @@
 
 ghost use Rattle.sizes.specs.Class.{ClassOf, SizeOf};
 
-// The class type: its limits as constants, the class of a length and the size of a class as functions.
+// The class type (paper 01's form): its limits as constants, the class of a length and the size of a class as functions. A class is a number, as C has it.
 #[derive(Clone, Copy)]
 pub struct SizeClass;
 
