@@ -1,12 +1,13 @@
 -- How the code's steps make up the rules of the calls.
 use Rattle.std.specs.Prelude.{ℕ, ◌+◌, ◌-◌, ◌≤◌, ◌<◌, ◌≡◌, refl, List, length, set}
-use Rattle.std.proofs.Common.{ap, ◌∙◌, ⊎_elim, get_or-set_same, eq-eqb, ne_eqb, le-leb, eq-zero-or-pos, arith}
+use Rattle.std.proofs.Common.{ap, ◌∙◌, ⊎_elim, get_or-set_same, eq-eqb, ne_eqb, le-leb, eq-zero-or-pos, arith, add-zero}
 use Rattle.std.proofs.lemmas.Bool.{lt-leb}
 use Rattle.pool.specs.declared.ListPool.{ListPool}
 use Rattle.pool.specs.declared.Answer.{Answer}
 use Rattle.pool.specs.Numbers.{handle_at}
 use Rattle.pool.specs.Blocks.{Taken, moved}
 use Rattle.pool.specs.Rules.{Outcome, outcome, answer, done, len_of, seated, cleared, last_removed, grown, clear_done, push_done, truncate_done}
+use Rattle.pool.specs.Rules.{from_slice_done, extend_done}
 use Rattle.pool.specs.Steps.{Meets, ListAt, resized}
 
 -- a list that was seated in a block that holds it
@@ -92,3 +93,9 @@ pub outcome_written : (f : List ℕ → List ℕ → List ℕ) {r : Answer} {aft
     → outcome r written tabled ≡ outcome o.answer (f o.words o.handles) o.handles
 outcome_written f {r} {tabled = tabled} e w =
     ap (λ (l : List ℕ). outcome r l tabled) w ∙ ap (λ (o : Outcome). outcome o.answer (f o.words o.handles) o.handles) e
+
+-- a list put into an empty slot is the empty list extended
+pub put_extended : (st : ListPool) (ws hs : List ℕ) (slot : ℕ) (xs : List ℕ) → len_of ws hs slot ≡ 0
+    → extend_done st ws hs slot xs ≡ from_slice_done st ws hs slot xs
+unfolding extend_done from_slice_done
+put_extended st ws hs slot xs none = rw (none, add-zero) refl

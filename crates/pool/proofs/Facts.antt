@@ -260,6 +260,13 @@ module _ (st : ListPool) (ws hs : List ℕ) where
       let empty = eqb-true _ _ (not-false _ (given_zero 5 _ (omega arith) (else_first _ _ e2))) in
       ready_empty st ws hs _ _ (entry_facts _ _ _ _ (else_first _ _ e)) empty (else_second _ _ e2)
 
+  -- and its list is empty
+  pub from_slice_empty : (slot count : ℕ) → from_slice_number st ws hs slot count ≡ 0 → len_of ws hs slot ≡ 0
+  unfolding from_slice_number
+  from_slice_empty slot count e =
+      let e2 = else_second _ _ e in
+      (entry_facts _ _ _ _ (else_first _ _ e)).list.none (eqb-true _ _ (not-false _ (given_zero 5 _ (omega arith) (else_first _ _ e2))))
+
   pub deep_clone_facts : (slot to : ℕ) → deep_clone_number st ws hs slot to ≡ 0
       → (Entered st.used ws hs slot) × (Ready st ws hs to (len_of ws hs to + len_of ws hs slot))
   unfolding deep_clone_number

@@ -26,7 +26,13 @@ impl ListPool {
     }
 
     // Does an `extend`: grows the list, and fills the places that opens at its end with the elements.
-    fn extend_done(&mut self, pool: &mut [u32], handles: &mut [u32], slot: usize, elements: &[u32])
+    pub(super) fn extend_done(
+        &mut self,
+        pool: &mut [u32],
+        handles: &mut [u32],
+        slot: usize,
+        elements: &[u32],
+    )
         requires { Ready self.old pool.old handles.old slot (len_of pool.old handles.old slot + length elements.now) }
         ensures { outcome (answer 0 0 self.new) pool.new handles.new
             ≡ rules.extend_done self.old pool.old handles.old slot elements.now }

@@ -8,23 +8,6 @@ ghost use Rattle.pool.specs.Steps.{Ready};
 use super::{Answer, ListPool, numbers};
 
 impl ListPool {
-    // Does a `from_slice`: grows the empty list, and stores the elements in it.
-    fn from_slice_done(
-        &mut self,
-        pool: &mut [u32],
-        handles: &mut [u32],
-        slot: usize,
-        elements: &[u32],
-    )
-        requires { Ready self.old pool.old handles.old slot (len_of pool.old handles.old slot + length elements.now) }
-        ensures { outcome (answer 0 0 self.new) pool.new handles.new
-            ≡ rules.from_slice_done self.old pool.old handles.old slot elements.now }
-    {
-        self.grow(pool, handles, slot, elements.len());
-        let at = handles[slot] as usize;
-        words::store(pool, at, elements);
-    }
-
     // Does a `deep_clone`: grows the empty list to the length of the list in the slot, and copies that list's elements there.
     fn deep_clone_done(&mut self, pool: &mut [u32], handles: &mut [u32], slot: usize, to: usize)
         requires { (Entered self.old.used pool.old handles.old slot)
@@ -39,7 +22,7 @@ impl ListPool {
         words::copy(pool, h as usize, at, len);
     }
 
-    // Puts a list of the elements into an empty slot.
+    // Puts a list of the elements into an empty slot: extends the empty list by them.
     pub fn from_slice(
         mut self,
         pool: &mut [u32],
@@ -52,7 +35,7 @@ impl ListPool {
     {
         match self.check_from_slice(pool, handles, slot, elements.len()) {
             Ok(()) => {
-                self.from_slice_done(pool, handles, slot, elements);
+                self.extend_done(pool, handles, slot, elements);
                 self.done(0)
             }
             Err(refusal) => self.refused(refusal),
