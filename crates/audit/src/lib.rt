@@ -146,8 +146,9 @@ fn accepted(
     swept(used, map)
 }
 
-// Audits a pool. Answers 0 where it is sound, and then the map says at each block's first group of four words its slot + 1, or 2,147,483,648 + its
-// class where it is free, and 0 at its other groups; answers 9 where it is not sound, and then the map's first used / 4 words are 0.
+// Audits a pool; the answer is a number, as C has it. Answers 0 where it is sound, and then the map says at each block's first group of four words its
+// slot + 1, or 2,147,483,648 + its class where it is free, and 0 at its other groups; answers 9 where it is not sound, and then the map's first used / 4
+// words are 0.
 pub fn audit(state: ListPool, pool: &[u32], handles: &[u32], map: &mut [u32]) -> Answer
     ensures { rules.audited result map.new ≡ rules.audit state pool.now handles.now map.old }
 {

@@ -1,4 +1,5 @@
-// What a call answers: inside the library a refusal is a case of an enum, and outside, where C is handed it, a number beside a value.
+// What a call answers: inside the library a refusal is a case of an enum, and outside, where C is handed it, a number beside a value. A call makes the one
+// of the other by a `match`: with `?` in a function of its own, each call would have its parameters and its contract twice.
 ghost use Rattle.std.specs.Prelude.{◌≡◌};
 ghost use Rattle.pool.specs.Refusals.{refusal_number};
 ghost use Rattle.pool.specs.Rules as rules;

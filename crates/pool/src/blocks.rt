@@ -1,4 +1,4 @@
-// Blocks: taken, freed, and exchanged for one of another class.
+// Blocks: taken, freed, and exchanged for one of another class. Of the numbers that are handed on together: see the head of steps.rt.
 ghost use Rattle.std.specs.Prelude.{◌≡◌, ◌≤◌, true, ◌+◌, length};
 ghost use Rattle.sizes.specs.Class.{size_of};
 ghost use Rattle.pool.specs.Numbers.{needs_block};

@@ -1,5 +1,5 @@
 // The checks that the calls and the audit share, on any input whatever: the limits, and local soundness of a handle and of a head. The used count stands
-// beside the words since a call has the whole pool, which may be shorter than it; the audit has the used words alone.
+// beside the words, and is not their length: the functions are public, and their rules speak of every used count and every pool, a shorter one too.
 ghost use Rattle.std.specs.Prelude.{◌≡◌};
 ghost use Rattle.pool.specs.Numbers as numbers;
 

@@ -1,4 +1,4 @@
-// The calls that make a list longer.
+// The calls that make a list longer. Why pool, table and slot stand apart: see the head of steps.rt.
 ghost use Rattle.std.specs.Prelude.{◌≡◌, ◌+◌, ◌≤◌, length};
 ghost use Rattle.pool.specs.Numbers.{handle_at};
 ghost use Rattle.pool.specs.Rules as rules;
@@ -67,7 +67,7 @@ impl ListPool {
         at
     }
 
-    // Does a `copy_from`: opens places for the source's range, and copies it there.
+    // Does a `copy_from`: opens places for the source's range, and copies it there. Start and end are those of the call.
     fn copy_from_done(
         &mut self,
         pool: &mut [u32],
@@ -88,7 +88,7 @@ impl ListPool {
         words::copy(pool, from, at, count);
     }
 
-    // Does an `insert`: pushes the element, shifts the tail up by one, and writes the element at the position.
+    // Does an `insert`, as its rule says: pushes the element, shifts the tail up by one, and writes the element at the position.
     fn insert_done(
         &mut self,
         pool: &mut [u32],

@@ -1,4 +1,4 @@
-// The calls that put a list into an empty slot.
+// The calls that put a list into an empty slot. Why pool, table and slot stand apart: see the head of steps.rt.
 ghost use Rattle.std.specs.Prelude.{◌≡◌, ◌+◌, length};
 ghost use Rattle.pool.specs.Rules as rules;
 ghost use Rattle.pool.specs.Rules.{answer, called, len_of, outcome};

@@ -1,4 +1,4 @@
-// The calls that read a list.
+// The calls that read a list. Why pool, table and slot stand apart: see the head of steps.rt.
 ghost use Rattle.std.specs.Prelude.{◌≡◌};
 ghost use Rattle.pool.specs.Rules as rules;
 ghost use Rattle.pool.specs.Rules.{called, outcome};
@@ -40,7 +40,8 @@ impl ListPool {
         }
     }
 
-    // Returns where the elements of the list in a slot lie: from start to end of the pool, and nothing, at 0, where reading it is refused.
+    // Returns where the elements of the list in a slot lie: from start to end of the pool, and nothing, at 0, where reading it is refused. An empty part, and
+    // no `None`, is what paper 01 has for a refusal, here and in the slices.
     pub fn part(self, pool: &[u32], handles: &[u32], slot: usize) -> Part
         ensures { PartOf self pool.now handles.now slot result }
     {

@@ -1,4 +1,4 @@
-// The calls that make a list shorter or empty, and the pool's clear.
+// The calls that make a list shorter or empty, and the pool's clear. Why pool, table and slot stand apart: see the head of steps.rt.
 ghost use Rattle.std.specs.Prelude.{◌≡◌, ◌-◌, min};
 ghost use Rattle.pool.specs.Rules as rules;
 ghost use Rattle.pool.specs.Rules.{answer, called, len_of, outcome};

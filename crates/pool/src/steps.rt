@@ -2,7 +2,7 @@
 //
 // Pool, table and slot are handed from function to function apart, as C hands them in: of a struct that holds the two `&mut`, each clause would have to say
 // that its fields are still those that were lent. What is asked of them (`Ready`, a slot below the table's length) is asked in each contract for that reason. A
-// list's handle and length, and its old length and its new, are numbers of which each function has other pairs.
+// list's handle, its length and the new one are three numbers, which `moved` and `resize` take apart as their rules do; a struct would be made for one call.
 ghost use Rattle.std.specs.Prelude.{◌≡◌, ◌+◌, ◌≤◌, ◌<◌, length, set};
 ghost use Rattle.pool.specs.Numbers.{pool_limit};
 ghost use Rattle.pool.specs.Rules as rules;

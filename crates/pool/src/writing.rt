@@ -1,4 +1,4 @@
-// The calls that write to a list's elements and leave its length.
+// The calls that write to a list's elements and leave its length. Why pool, table and slot stand apart: see the head of steps.rt.
 ghost use Rattle.std.specs.Prelude.{◌≡◌};
 ghost use Rattle.pool.specs.Rules as rules;
 ghost use Rattle.pool.specs.Rules.{called, outcome};

@@ -205,7 +205,8 @@ fn done(state: ListPool, n: usize) -> Answer {
     state.done(u32::try_from(n).unwrap_or(u32::MAX))
 }
 
-// Returns how many elements a list has, where that is not as many as the Rust's; else how many there are before the first that differs.
+// Returns, as the list has it in one number, how many elements a list has, where that is not as many as the Rust's; else how many there are before the
+// first that differs.
 fn alike(ours: &[u32], rust: &[u32]) -> usize {
     if ours.len() != rust.len() {
         return ours.len();

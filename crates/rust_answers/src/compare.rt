@@ -12,7 +12,7 @@ const WORDS: usize = 32;
 
 const CELLS: usize = WORDS + POOL_LIMIT;
 
-// What the Rust left, cell by cell.
+// What the Rust left, cell by cell: one array, since a change of the list may be of any run of cells (docs/RUST-ANSWERS.md).
 #[derive(Drop)]
 pub struct Cells([u32; CELLS]);
 
