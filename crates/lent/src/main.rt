@@ -1,6 +1,7 @@
 // Runs `as_mut_slice`, whose contract says where the part lies and what it holds, and nothing of the pool's other words. Each case lends a copy of its
 // pool and of its table, reads the part or writes over it, and compares every word and handle once the loan has ended. A line for each group of cases,
 // `ok`, or `wrong` where a part is another list than the case's, or a word or handle another than it should be.
+// No heap: arrays of fixed size on the stack, as the pool is fixed and lent.
 #![tactic(auto)]
 
 use pool::ListPool;

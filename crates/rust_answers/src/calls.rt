@@ -120,7 +120,7 @@ impl<'a> TryFrom<(u32, &'a [u32])> for ListCall<'a> {
 }
 
 impl Call<'_> {
-    // Makes the call.
+    // Makes the call. State, pool and table stand apart, as the library's calls take them.
     pub fn make(self, state: ListPool, pool: &mut [u32], handles: &mut [u32]) -> Answer {
         match self {
             Call::NewPool { .. } | Call::ClearPool => state.clear_pool(pool, handles),

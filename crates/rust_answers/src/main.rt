@@ -1,6 +1,7 @@
 // Replays the fixed list of the Rust's answers, which standard input has: each line's call is made on the library, and what comes back and what it
 // leaves are compared with what the Rust gave and left. It says how many calls were as the Rust, or where and how the first one was not.
 // The list's format is in docs/RUST-ANSWERS.md.
+// No heap: arrays of fixed size on the stack, as the pool is fixed and lent.
 #![tactic(auto)]
 
 ghost use Rattle.std.specs.Prelude.{◌<◌, ◌≤◌, ◌^◌, length};

@@ -1,5 +1,6 @@
 // Paper 01's bench sheet, run: a line for each row, `ok`, or `wrong` where a number, value, used count, head, word or handle is another than the
 // row's. A pool is an array of 16,384 words, all 0 at start, whose first 16 are lent (12 for P6); the others must stay 0.
+// No heap: arrays of fixed size on the stack, as the pool is fixed and lent.
 #![tactic(auto)]
 
 use audit::audit;
