@@ -54,7 +54,10 @@ function index_line() {
     else if ($1 == "kit") kit[$2, $4, ++kits[$2, $4]] = $3
     else if ($1 == "rattle") {
         rattle[$2] = $6
-        if ($3 == "pub" && $6 ~ /^fn/ && $6 !~ / again/) public[$2] = $4 ":" $5
+        if ($3 != "private" && $6 ~ /^fn/ && $6 !~ / again/) {
+            public[$2] = $4 ":" $5
+            if ($3 == "inner") inner[$2] = 1
+        }
         if ($6 ~ / again/) typed[$4 ":" $5] = $2
         if ($4 ~ /main\.rt$/) of_program[crate_of($2)] = 1
     }
@@ -258,14 +261,15 @@ function sentences(    b, i, j, at, from, size, text, mark, start, covered, all,
 
 # PUBLIC FUNCTIONS, MUST-FAIL EDITS
 
-# Every public function is in a row; those of a library have a contract; methods, C's functions and the audit are in a row of calls.
+# Every public function is in a row, and every one that other files of its crate may use; those of a library have a contract; methods that are public, C's
+# functions and the audit are in a row of calls.
 function functions(    name, what) {
     for (name in public) {
         what = rattle[name]
-        if (!check(is_cited(name), public[name], "no row of docs/PROVED.md has the public function " name)) continue
+        if (!check(is_cited(name), public[name], "no row of docs/PROVED.md has the " (name in inner ? "inner" : "public") " function " name)) continue
         if (crate_of(name) in of_program) continue
         check(what ~ / ensures/, public[name], name " has no contract (ensures)")
-        if (what ~ / (method|extern)/ || name ~ /^audit::/) check(is_called(name), public[name], name " is in no table of calls of docs/PROVED.md")
+        if (!(name in inner) && what ~ / (method|extern)/ || name ~ /^audit::/) check(is_called(name), public[name], name " is in no table of calls of docs/PROVED.md")
     }
 }
 

@@ -2,7 +2,8 @@
 #
 #     antt    CITATION  pub|private  FILE  LINE         a definition or theorem of a crate's specs, cited as crate.File.name, or of the files of laws
 #                                                         in its folder proofs, cited as crate.proofs.File.name
-#     rattle  CITATION  pub|private  FILE  LINE  KIND   what a crate's source declares, cited as crate::file::name or crate::name
+#     rattle  CITATION  pub|inner|private  FILE  LINE  KIND   what a crate's source declares, cited as crate::file::name or crate::name; inner is what
+#                                                         other files of the crate may use alone
 #     test    PATH::NAME                                a function of a test in Rust or C
 #
 #     stated  FILE  NAME  LINE                            a line of the statement of what stands in no module, without leading blanks and pub
@@ -100,7 +101,7 @@ function rattle(    words, item) {
         flush()
         open = 1
         kind = "fn"
-        exported = $0 ~ /^ *pub / ? "pub" : "private"
+        exported = $0 ~ /^ *pub / ? "pub" : $0 ~ /^ *pub\(/ ? "inner" : "private"
         if (type != "") kind = kind " method"
         if ($0 ~ /extern "C"/) kind = kind " extern"
         name = $0

@@ -1,5 +1,6 @@
 // What a call answers: inside the library a refusal is a case of an enum, and outside, where C is handed it, a number beside a value. A call makes the one
-// of the other by a `match`: with `?` in a function of its own, each call would have its parameters and its contract twice.
+// of the other by a `match`: with `?` in a function of its own, each call would have its parameters and its contract twice. `clear`, `set` and `take` take the
+// number alone from their `match` and answer once: by `done` and `refused` the compiler would copy the state on two ways, and they take a quarter more time.
 ghost use Rattle.std.specs.Prelude.{◌≡◌};
 ghost use Rattle.pool.specs.Refusals.{refusal_number};
 ghost use Rattle.pool.specs.Rules as rules;

@@ -67,13 +67,17 @@ impl ListPool {
         ensures { outcome result pool.now handles.new
             ≡ called (rules.take slot to) self pool.now handles.old }
     {
-        match self.check_take(pool, handles, slot, to) {
+        let number = match self.check_take(pool, handles, slot, to) {
             Ok(()) => {
                 handles[to] = handles[slot];
                 handles[slot] = 0;
-                self.done(0)
+                0
             }
-            Err(refusal) => self.refused(refusal),
+            Err(refusal) => u32::from(refusal),
+        };
+        Answer {
+            number,
+            ..self.done(0)
         }
     }
 }

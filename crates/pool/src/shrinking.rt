@@ -59,16 +59,20 @@ impl ListPool {
         ensures { outcome result pool.new handles.new
             ≡ called (rules.clear slot) self pool.old handles.old }
     {
-        match self.check_entry(pool, handles, slot) {
+        let number = match self.check_entry(pool, handles, slot) {
             Ok(()) => {
                 let h = handles[slot];
                 if h != 0 {
                     let len = numbers::length_at(pool, h);
                     self.release(pool, handles, slot, h, len);
                 }
-                self.done(0)
+                0
             }
-            Err(refusal) => self.refused(refusal),
+            Err(refusal) => u32::from(refusal),
+        };
+        Answer {
+            number,
+            ..self.done(0)
         }
     }
 

@@ -33,12 +33,16 @@ impl ListPool {
         ensures { outcome result pool.new handles.now
             ≡ called (rules.set_at slot position element) self pool.old handles.now }
     {
-        match self.check_at(pool, handles, slot, position) {
+        let number = match self.check_at(pool, handles, slot, position) {
             Ok(()) => {
                 pool[handles[slot] as usize + position] = element;
-                self.done(0)
+                0
             }
-            Err(refusal) => self.refused(refusal),
+            Err(refusal) => u32::from(refusal),
+        };
+        Answer {
+            number,
+            ..self.done(0)
         }
     }
 }

@@ -95,7 +95,8 @@ impl Bench {
         Ok(())
     }
 
-    // Reads a line, and makes its call.
+    // Reads a line, and makes its call. It is called, and not made part of what calls it, so that its numbers are on the stack only where there is a line.
+    #[inline(never)]
     fn step(&mut self, line: &[u8]) -> Result<(), Finding> {
         let mut numbers = [0; MOST_NUMBERS];
         let numbers = text::read_line(line, &mut numbers)?;

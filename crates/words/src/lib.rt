@@ -20,10 +20,13 @@ pub fn copy(s: &mut [u32], from: usize, to: usize, n: usize)
     s.copy_within(from..from + n, to);
 }
 
-// Stores the words of `t` from `at` on.
+// Stores the words of `t` from `at` on. A loop, since the library's `copy_from_slice` becomes a call of the C library's memmove, which the archive for C
+// would then ask of whoever links it.
 pub fn store(s: &mut [u32], at: usize, t: &[u32])
     requires { at + length t.now ≤ length s.old }
     ensures { s.new ≡ stored s.old at t.now }
 {
-    s[at..at + t.len()].copy_from_slice(t);
+    for (i, word) in t.iter().enumerate() {
+        s[at + i] = *word;
+    }
 }

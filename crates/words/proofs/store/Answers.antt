@@ -1,9 +1,21 @@
--- `store` meets its contract.
-use Rattle.std.proofs.Common.{arith}
+-- `store` meets its contract. What the loop keeps: the words passed so far are stored.
+use Rattle.std.specs.Prelude.{refl}
+use Rattle.std.proofs.Common.{length-set, take_all, arith}
 use Rattle.words.specs.Runs.{stored}
-use Rattle.words.proofs.Pastes.{part_sets}
+use Rattle.words.specs.RunLaws.{set_sets_take}
 use Rattle.words.proofs.store.Goals as goal
+
+pub loop-i-init : goal.loop-i-init
+loop-i-init c = (refl, refl)
+
+pub loop-i-preserved : goal.loop-i-preserved
+loop-i-preserved c =
+    let a = c.args in
+    let l = c.loop-i in
+    (simp length-set l.invariant.0, rw l.invariant.1 (set_sets_take a.s.now a.at a.t.now l.i (omega (arith, c.loop-i-test.true))))
 
 pub returns : goal.returns
 unfolding stored
-returns c = let a = c.args in part_sets a.s.now a.at _ a.t.now _ c.copy_from_slice.ensures.after (omega arith) (omega arith)
+returns c =
+    let l = c.loop-i in
+    rw (take_all l.i c.args.t.now (omega (arith, c.loop-i-test.false))) at l.invariant.1
