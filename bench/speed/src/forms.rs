@@ -152,8 +152,9 @@ unsafe extern "C" fn value_judged(
     }
 }
 
-/// The state by value, and all judged, cut into functions as the library is: one for the number,
-/// and one for the rest that takes the state by value and hands it back in an answer of its own.
+/// The state by value, and all judged, cut into functions as the library was when its times were
+/// taken for docs/SPEED.md: one for the number, and one for the rest that takes the state by value
+/// and hands it back in an answer of its own.
 #[inline(never)]
 unsafe extern "C" fn value_cut(
     state: State,
@@ -394,7 +395,7 @@ impl Pushes for OriginalCalled {
     }
 }
 form! {
-    /// The state by value, and all judged, cut into functions as the library is.
+    /// The state by value, and all judged, cut into functions as the library was.
     ValueCut, "value cut", |state, (p, n, h, m, slot, element)| {
         let answer = &value_cut(*state, p, n, h, m, slot, element);
         *state = answer.state;
