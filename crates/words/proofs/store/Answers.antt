@@ -1,12 +1,8 @@
 -- `store` meets its contract. What the loop keeps: the words passed so far are stored.
-use Rattle.std.specs.Prelude.{refl}
 use Rattle.std.proofs.Common.{length-set, take_all, arith}
 use Rattle.words.specs.Runs.{stored}
 use Rattle.words.specs.RunLaws.{set_sets_take}
 use Rattle.words.proofs.store.Goals as goal
-
-pub loop-i-init : goal.loop-i-init
-loop-i-init c = (refl, refl)
 
 pub loop-i-preserved : goal.loop-i-preserved
 loop-i-preserved c =
