@@ -62,7 +62,7 @@ impl ListPool {
         }
     }
 
-    // Moves the list in a slot to the empty slot `to`.
+    // Moves the list in a slot to the empty slot `to`. Why it answers once: see the head of answers.rt.
     pub fn take(self, pool: &[u32], handles: &mut [u32], slot: usize, to: usize) -> Answer
         ensures { outcome result pool.now handles.new
             ≡ called (rules.take slot to) self pool.now handles.old }

@@ -54,7 +54,7 @@ impl ListPool {
         }
     }
 
-    // Removes all elements from the list in a slot, and gives its block back.
+    // Removes all elements from the list in a slot, and gives its block back. Why it answers once: see the head of answers.rt.
     pub fn clear(mut self, pool: &mut [u32], handles: &mut [u32], slot: usize) -> Answer
         ensures { outcome result pool.new handles.new
             ≡ called (rules.clear slot) self pool.old handles.old }

@@ -21,7 +21,7 @@ impl ListPool {
         &mut pool[start..end]
     }
 
-    // Sets the element at a position of the list in a slot.
+    // Sets the element at a position of the list in a slot. Why it answers once: see the head of answers.rt.
     pub fn set(
         self,
         pool: &mut [u32],

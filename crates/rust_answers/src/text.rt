@@ -1,11 +1,11 @@
 // Decimal numbers in a text.
-ghost use Rattle.std.specs.Prelude.{◌≤◌, length, IfOk, IfSome};
+ghost use Rattle.std.specs.Prelude.{◌≤◌, ◌<◌, length, IfOk, IfSome};
 
 use super::findings::Fault;
 
 // Splits the number that a text begins with from the rest. None where it begins with none, or with one of more than 32 bits.
 fn split_number(text: &[u8]) -> Option<(u32, &[u8])>
-    ensures { IfSome result (λ split. length split.1.now ≤ length text.now) }
+    ensures { IfSome result (λ split. length split.1.now < length text.now) }
 {
     let digits = text
         .iter()
